@@ -2,7 +2,9 @@
 use mathlib.Core.Path.{_≡_, refl, sym, ap, ap₂, _∙_}
 use mathlib.Core.Bool.{Bool, true, false, So, cond, _||_, _&&_}
 use Prim.Native.Nat.{ℕ, zero, suc, _+_, _-_, _*_, _/_, _%_, _^_, _≤_, _<_}
-use native.Mathlib.Nat.{mod-lt, pow-suc, mod-one, div-one, div-add-mod', add-comm, add-zero, zero-add, zero-mul, one-mul, add-mul, mul-le-mul-right, mul-add, mul-one}
+use native.Mathlib.Nat.{mod-lt, pow-suc, mod-one, div-one, div-add-mod', add-comm, add-zero, zero-add, zero-mul, one-mul, add-mul, mul-le-mul-right, mul-add, mul-one, div-eq-of-lt}
+use mathlib.Core.Logic.{⊎-elim}
+use Rattle.std.proofs.shelf.Tests.{cases-lt}
 use native.Mathlib.Numerals.{add-one, one-add}
 use native.Mathlib.Omega.{arith}
 use lib.Arith.{lt-one}
@@ -150,3 +152,10 @@ bit-packed (suc n) f (a, false) =
     ap (bit (packed (suc n) f)) (add-zero (index n a))
     ∙ bit-low (packed n (λ b. f (b, true))) (packed n (λ b. f (b, false))) (2 ^ n) (index n a) (packed-lt n (λ b. f (b, false))) (index-lt n a)
     ∙ bit-packed n (λ b. f (b, false)) a
+
+-- a number with bit j set is at least 2 ^ j
+pub bit-le : (i j : ℕ) → i / 2 ^ j % 2 ≡ 1 → 2 ^ j ≤ i
+bit-le i j e = ⊎-elim (λ h. absurd (none (sym e ∙ ap (λ n. n % 2) (div-eq-of-lt h)))) (λ h. h) (cases-lt i (2 ^ j))
+  where
+    none : _≡_ {A = ℕ} 1 0 → ⊥
+    none h = omega arith

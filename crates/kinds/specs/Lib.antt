@@ -8,3 +8,4 @@ pub mod Pairs
 pub mod Codes
 pub mod Maps
 pub mod Rows
+pub mod Wording

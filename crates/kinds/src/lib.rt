@@ -10,3 +10,4 @@ pub mod maps;
 pub mod pairs;
 pub mod rows;
 pub mod semiring;
+pub mod wording;

@@ -144,6 +144,18 @@ pub struct Chain<F, G, M> {
     pub between: PhantomData<M>,
 }
 
+impl<F, G, M> Chain<F, G, M> {
+    pub fn new(first: F, second: G) -> Chain<F, G, M>
+        ensures { λ r. ⌜ (r .first ≡ first) × (r .second ≡ second) ⌝ }
+    {
+        Chain {
+            first,
+            second,
+            between: PhantomData,
+        }
+    }
+}
+
 pub impl<K: Kind, L: Kind, M: Kind, F: Map<K, M>, G: Map<M, L>> Map<K, L> for Chain<
     F,
     G,
