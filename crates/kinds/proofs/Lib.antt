@@ -2,9 +2,5 @@ pub mod FlagLaws
 pub mod NumberLaws
 pub mod ClearanceLaws
 pub mod PairLaws
-pub mod Bitwise
-pub mod Closing
 pub mod ConditionLaws
-pub mod Variables
 pub mod MapLaws
-pub mod RowLaws

@@ -1,6 +1,5 @@
 -- The maps between kinds are homomorphisms.
-use mathlib.Core.Path.{_≡_, refl, sym, ap, ap₂, _∙_}
-use mathlib.Core.List.{List, [], _∷_, map}
+use mathlib.Core.Path.{_≡_, refl, sym, ap, _∙_}
 use mathlib.Core.Bool.{Bool, true, false, _||_, _&&_}
 use Prim.Native.Nat.{ℕ, zero, suc, _+_, _*_, _≤_, min, max}
 use native.Mathlib.Nat.{mul-zero, zero-mul, mul-le-mul}
@@ -8,13 +7,13 @@ use native.Mathlib.Omega.{arith}
 use lib.Dec.{ltb, leb}
 use Rattle.std.proofs.shelf.Ways.{tells}
 use Rattle.std.proofs.shelf.Tests.{lt-ltb, lt-leb, le-leb}
-use Rattle.kinds.specs.Conditions.{Assignment, conditions}
-use Rattle.kinds.proofs.FlagLaws.{and-false}
+use Rattle.truth_tables.specs.Monotone.{Assignment}
+use Rattle.truth_tables.proofs.BoolLaws.{and-false}
+use Rattle.kinds.specs.Conditions.{conditions}
 use Rattle.kinds.specs.Semiring.{Semiring}
 use Rattle.kinds.specs.Flags.{flags}
 use Rattle.kinds.specs.Upto.{Upto, held, ranks, counts}
 use Rattle.kinds.specs.Pairs.{pairs}
-use Rattle.kinds.specs.Rows.{folded}
 use Rattle.kinds.specs.Maps.{Homomorphism}
 
 above-product : (a b : ℕ) → ltb 0 (a * b) ≡ (ltb 0 a && ltb 0 b)
@@ -57,11 +56,3 @@ cleared-keeps c low high = record {
   keeps-plus = λ a b. let e : min (max (a .0) (b .0)) 4 ≡ max (a .0) (b .0) = omega arith in ap (leb c) e ∙ grind (arith, tells);
   keeps-times = λ a b. let e : min (min (a .0) (b .0)) 4 ≡ min (a .0) (b .0) = omega arith in ap (leb c) e ∙ grind (arith, tells);
 }
-
--- What keeps an operation and its unit keeps every fold of a row: f joins and then maps, image maps and then joins.
-pub keeps-fold : {K L A B : Type 0} (from : K → A) (to : L → B) (image : K → L) (f : A → B) (op : A → A → A) (unit : A) (op′ : B → B → B) (unit′ : B)
-    → ((x : K) → to (image x) ≡ f (from x)) → f unit ≡ unit′ → ((a b : A) → f (op a b) ≡ op′ (f a) (f b))
-    → (xs : List K) → f (folded op unit (map from xs)) ≡ folded op′ unit′ (map to (map image xs))
-keeps-fold from to image f op unit op′ unit′ agrees at-unit at-op [] = at-unit
-keeps-fold from to image f op unit op′ unit′ agrees at-unit at-op (x ∷ xs) =
-    at-op (from x) (folded op unit (map from xs)) ∙ ap₂ op′ (sym (agrees x)) (keeps-fold from to image f op unit op′ unit′ agrees at-unit at-op xs)

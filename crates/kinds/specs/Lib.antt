@@ -7,5 +7,4 @@ pub mod Conditions
 pub mod Pairs
 pub mod Codes
 pub mod Maps
-pub mod Rows
 pub mod Wording

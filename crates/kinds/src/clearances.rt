@@ -35,10 +35,10 @@ pub impl Kind for Clearance as ClearanceKind {
     }
 
     fn times(self, other: Clearance) -> Clearance {
-        if (self as u8) < (other as u8) {
-            self
-        } else {
+        if (other as u8) < (self as u8) {
             other
+        } else {
+            self
         }
     }
 

@@ -5,13 +5,12 @@ ghost use Prim.Native.Nat.{_<_, _≤_};
 ghost use lib.Dec.{ltb, leb};
 ghost use Rattle.std.specs.Options.{Cases as BySome};
 ghost use Rattle.kinds.specs.Clearances.{rank};
-ghost use Rattle.kinds.specs.Conditions.{assignment, condition};
+ghost use Rattle.truth_tables.specs.Tables.{assignment, function};
 ghost use Rattle.kinds.specs.Maps.{Mapping};
 use crate::clearances::Clearance;
 use crate::clearances::ClearanceKind;
 use crate::conditions::Condition;
 use crate::conditions::ConditionKind;
-use crate::conditions::closed;
 use crate::counts::Count;
 use crate::counts::CountKind;
 use crate::flags::Flag;
@@ -97,11 +96,11 @@ impl Under {
 }
 
 pub impl Map<Condition, Flag> for Under as UnderMap {
-    ghost image = { λ m x. record { yes = condition (x .bits) .0 (assignment 6 (m .at)) } };
+    ghost image = { λ m x. record { yes = function (x .bits) .0 (assignment 6 (m .at)) } };
 
     fn map(&self, x: Condition) -> Flag {
         Flag {
-            yes: (closed(x.bits) >> self.at) % 2 == 1,
+            yes: truth_tables::value_at(x.bits, self.at),
         }
     }
 

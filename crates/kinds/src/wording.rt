@@ -1,12 +1,10 @@
 // Annotations in words.
 ghost use mathlib.Core.Path.{_≡_};
-ghost use mathlib.Core.Bool.{_&&_};
-ghost use Prim.Native.Nat.{_-_, _^_, _<_, min};
+ghost use Prim.Native.Nat.{min};
 ghost use lib.Chars.{codes};
 ghost use Rattle.std.specs.declared.option.Option.the-variants.{Some};
 ghost use Rattle.std.specs.Written.{decimal, then};
-ghost use Rattle.kinds.specs.Conditions.{bit};
-ghost use Rattle.kinds.specs.Wording.{flag-word, clearance-word, least-at};
+ghost use Rattle.kinds.specs.Wording.{flag-word, clearance-word};
 use crate::clearances::Clearance;
 use crate::codes::Coded;
 use crate::conditions::Condition;
@@ -72,32 +70,6 @@ pub impl<L: fmt::Display, R: fmt::Display> fmt::Display for Pair<L, R> as PairDi
     }
 }
 
-// Whether variable j is true in assignment i, and the bits are set there without it too.
-fn holds_without(bits: u64, i: u8, j: u8) -> bool
-    requires { ⌜ i < 64 ⌝ ∗ ⌜ j < 6 ⌝ }
-    ensures { λ r. ⌜ r ≡ (bit i j && bit bits (i - 2 ^ j)) ⌝ }
-{
-    if (i >> j) % 2 != 1 {
-        return false;
-    }
-    (bits >> (i - (1 << j))) % 2 == 1
-}
-
-// Whether the bits are set at assignment i, and no longer with one variable less.
-fn is_least(bits: u64, i: u8) -> bool
-    requires { ⌜ i < 64 ⌝ }
-    ensures { λ r. ⌜ r ≡ least-at bits i ⌝ }
-{
-    if (bits >> i) % 2 != 1 {
-        return false;
-    }
-    let mut least = true;
-    for j in 0u8..6 {
-        least = least & !holds_without(bits, i, j);
-    }
-    least
-}
-
 // The variables that are true in assignment i, as `x0 and x2`.
 fn write_variables<W: fmt::Write>(f: &mut fmt::Formatter<W>, i: u8) -> fmt::Result {
     let mut first = true;
@@ -125,7 +97,7 @@ pub impl fmt::Display for Condition as ConditionDisplay {
         }
         let mut first = true;
         for i in 1u8..64 {
-            if is_least(bits, i) {
+            if truth_tables::is_least(bits, i) {
                 if !first {
                     f.write_str(", or ")?;
                 }

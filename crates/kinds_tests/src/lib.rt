@@ -4,7 +4,6 @@ mod tests {
     use kinds::clearances::Clearance;
     use kinds::clearances::ClearanceCoded;
     use kinds::clearances::ClearanceKind;
-    use kinds::coarsening::coarsen;
     use kinds::codes::Coded;
     use kinds::codes::read_code;
     use kinds::conditions::Condition;
@@ -32,18 +31,19 @@ mod tests {
     use kinds::maps::UnderMap;
     use kinds::pairs::Pair;
     use kinds::pairs::PairKind;
-    use kinds::rows::add_row;
-    use kinds::rows::add_scaled_row;
-    use kinds::rows::clear_row;
-    use kinds::rows::count_nonzero;
-    use kinds::rows::multiply_row;
-    use kinds::rows::scale_row;
-    use kinds::rows::sum_row;
     use kinds::semiring::Kind;
     use kinds::wording::ConditionDisplay;
     use kinds::wording::CountDisplay;
     use kinds::wording::FlagDisplay;
     use kinds::wording::PairDisplay;
+    use rows::coarsening::coarsen;
+    use rows::places::add_row;
+    use rows::places::add_scaled_row;
+    use rows::places::clear_row;
+    use rows::places::scale_row;
+    use rows::totals::count_nonzero;
+    use rows::totals::multiply_row;
+    use rows::totals::sum_row;
     use std::test::*;
 
     const NO: Flag = Flag { yes: false };

@@ -1,5 +1,5 @@
 use mathlib.Core.Path.{refl}
-use Rattle.kinds.specs.Conditions.{assignment}
+use Rattle.truth_tables.specs.Tables.{assignment}
 use Rattle.kinds.proofs.MapLaws.{under-keeps}
 use Rattle.kinds.proofs.maps.UnderMap.homomorphism.Needs as need
 

@@ -1,0 +1,2 @@
+-- Definitions on rows of annotations.
+pub mod Rows

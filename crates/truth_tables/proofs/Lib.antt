@@ -1,0 +1,5 @@
+pub mod BoolLaws
+pub mod MonotoneLaws
+pub mod Bitwise
+pub mod Closing
+pub mod Variables
