@@ -3,4 +3,3 @@ pub mod NumberLaws
 pub mod ClearanceLaws
 pub mod PairLaws
 pub mod ConditionLaws
-pub mod MapLaws

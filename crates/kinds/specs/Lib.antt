@@ -6,5 +6,4 @@ pub mod Clearances
 pub mod Conditions
 pub mod Pairs
 pub mod Codes
-pub mod Maps
 pub mod Wording

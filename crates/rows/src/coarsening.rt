@@ -7,8 +7,8 @@ ghost use Rattle.std.specs.Vec.{made};
 ghost use Rattle.rows.specs.Rows.{total, product};
 use crate::totals::multiply_row;
 use crate::totals::sum_row;
-use kinds::maps::Map;
 use kinds::semiring::Kind;
+use maps::Map;
 use std::alloc::AllocError;
 use std::alloc::Global;
 

@@ -1,9 +1,0 @@
-use mathlib.Core.Path.{ap, _∙_}
-use Rattle.kinds.proofs.MapLaws.{chain-keeps}
-use Rattle.kinds.proofs.maps.ChainMap.homomorphism.Needs as need
-
-pub returns : need.returns
-returns g c =
-    let p = c .homomorphism .ensures in
-    let q = c .homomorphism-2 .ensures in
-    record { on = λ a. q .on (p .on a); keeps = chain-keeps (p .keeps) (q .keeps); agrees = λ x. q .agrees _ ∙ ap (q .on) (p .agrees x) }

@@ -1,0 +1,2 @@
+-- Definitions on maps between kinds.
+pub mod Maps
