@@ -6,4 +6,3 @@ pub mod Clearances
 pub mod Conditions
 pub mod Pairs
 pub mod Codes
-pub mod Wording

@@ -6,4 +6,3 @@ pub mod counts;
 pub mod flags;
 pub mod pairs;
 pub mod semiring;
-pub mod wording;

@@ -19,10 +19,6 @@ mod tests {
     use kinds::pairs::Pair;
     use kinds::pairs::PairKind;
     use kinds::semiring::Kind;
-    use kinds::wording::ConditionDisplay;
-    use kinds::wording::CountDisplay;
-    use kinds::wording::FlagDisplay;
-    use kinds::wording::PairDisplay;
     use maps::Chain;
     use maps::ChainMap;
     use maps::Cleared;
@@ -299,20 +295,5 @@ mod tests {
         check(c.sum.same(count(1_000_000)) & c.product.same(count(0)))?;
         check(c.images.len() == 3)?;
         check(!c.images[0].yes & c.images[1].yes & c.images[2].yes)
-    }
-
-    #[test]
-    fn in_words(rt: LibcRuntime) -> Result<(), Fail> {
-        let heap = rt.alloc();
-        let p = both(YES, u32::MAX);
-        let pair = format!(heap, "{p}")?;
-        check(pair == "(yes, 1000000)")?;
-        let x = condition(8).plus(condition(16));
-        let words = format!(heap, "{x}")?;
-        check(words == "x0 and x1, or x2")?;
-        let none = condition(0);
-        let all = condition(1);
-        let ends = format!(heap, "{none}, {all}")?;
-        check(ends == "never, always")
     }
 }

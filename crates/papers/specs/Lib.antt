@@ -1,0 +1,2 @@
+-- What the lines of a paper say.
+pub mod Papers

@@ -1,0 +1,4 @@
+-- Words, lines and numerals of a text.
+pub mod Lines
+pub mod Numerals
+pub mod Commas
