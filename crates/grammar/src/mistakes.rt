@@ -2,20 +2,15 @@
 ghost use mathlib.Core.Path.{_≡_};
 ghost use Rattle.grammar.specs.declared.mistakes.Found.the-variants.{Word as FoundWord};
 use crate::names::KindName;
-use crate::names::KindNameDebug;
 use crate::names::KindNameDisplay;
-use crate::names::KindNamePartialEq;
 use crate::names::SimpleKind;
-use crate::names::SimpleKindDebug;
 use crate::names::SimpleKindDisplay;
-use crate::names::SimpleKindPartialEq;
 use std::fmt;
 use text::words::Place;
-use text::words::PlaceDebug;
 use text::words::Word;
 
 /// What stands at the place of a mistake.
-#[derive(Clone, Copy, Debug)]
+#[derive(Clone, Copy)]
 pub enum Found<'a> {
     Word(&'a [u8]),
     EndOfLine,
@@ -23,7 +18,7 @@ pub enum Found<'a> {
 }
 
 /// What a map is applied to.
-#[derive(Clone, Copy, Debug, PartialEq, Eq)]
+#[derive(Clone, Copy)]
 pub enum Part {
     Whole,
     LeftHalf,
@@ -31,7 +26,7 @@ pub enum Part {
 }
 
 /// A map at a kind where it does not start.
-#[derive(Clone, Copy, Debug, PartialEq, Eq)]
+#[derive(Clone, Copy)]
 pub struct Misfit {
     /// The kind that the map starts at; None is any pair.
     pub start: Option<SimpleKind>,
@@ -40,7 +35,7 @@ pub struct Misfit {
 }
 
 /// What was expected at the place of a mistake.
-#[derive(Clone, Copy, Debug, PartialEq, Eq)]
+#[derive(Clone, Copy)]
 pub enum Expected {
     KindLine,
     Kind,
@@ -62,7 +57,7 @@ pub enum Expected {
 }
 
 /// A mistake of a paper. It prints as a sentence.
-#[derive(Clone, Copy, Debug)]
+#[derive(Clone, Copy)]
 pub struct Mistake<'a> {
     pub place: Place,
     pub found: Found<'a>,

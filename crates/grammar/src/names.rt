@@ -10,7 +10,7 @@ ghost use Rattle.grammar.specs.Starts.{start-of, word-start, Starts};
 use std::fmt;
 
 /// A kind that has no halves.
-#[derive(Clone, Copy, Debug, PartialEq, Eq)]
+#[derive(Clone, Copy, PartialEq)]
 pub enum SimpleKind {
     Flag,
     Count,
@@ -19,14 +19,14 @@ pub enum SimpleKind {
 }
 
 /// The kind of the annotations of a paper.
-#[derive(Clone, Copy, Debug, PartialEq, Eq)]
+#[derive(Clone, Copy)]
 pub enum KindName {
     Simple(SimpleKind),
     Pair(SimpleKind, SimpleKind),
 }
 
 /// A map from a simple kind: `cleared` with a clearance from 1 to 4, `under` with a condition from 0 to 63.
-#[derive(Clone, Copy, Debug, PartialEq, Eq)]
+#[derive(Clone, Copy)]
 pub enum SimpleMap {
     Present,
     Cleared(u8),
@@ -34,7 +34,7 @@ pub enum SimpleMap {
 }
 
 /// A map, or the half that it takes of a pair and what it does then.
-#[derive(Clone, Copy, Debug, PartialEq, Eq)]
+#[derive(Clone, Copy)]
 pub enum MapName {
     Direct(SimpleMap),
     Left(Option<SimpleMap>),
@@ -42,7 +42,7 @@ pub enum MapName {
 }
 
 /// The first word of a map.
-#[derive(Clone, Copy, Debug, PartialEq, Eq)]
+#[derive(Clone, Copy)]
 pub enum MapWord {
     Present,
     Cleared,

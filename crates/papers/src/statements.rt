@@ -13,12 +13,9 @@ use grammar::mistakes::Expected;
 use grammar::mistakes::Found;
 use grammar::mistakes::Misfit;
 use grammar::mistakes::Mistake;
-use grammar::mistakes::MistakeDebug;
 use grammar::mistakes::Part;
 use grammar::names::KindName;
-use grammar::names::KindNameDebug;
 use grammar::names::MapName;
-use grammar::names::MapNameDebug;
 use grammar::names::MapWord;
 use grammar::names::SimpleKind;
 use grammar::names::SimpleMap;
@@ -30,10 +27,9 @@ use std::alloc::Refused;
 use text::numbers::number;
 use text::words::Reader;
 use text::words::Word;
-use text::words::WordDebug;
 
 /// A paper that was read: a kind, a map that starts at it, and the annotations.
-#[derive(Debug, Drop)]
+#[derive(Drop)]
 pub struct Paper<'a> {
     pub kind: KindName,
     pub map: MapName,
@@ -41,7 +37,7 @@ pub struct Paper<'a> {
 }
 
 /// Why a paper was not read.
-#[derive(Debug, Drop)]
+#[derive(Drop)]
 pub enum Failure<'a> {
     Mistake(Mistake<'a>),
     NoMemory,

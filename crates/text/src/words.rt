@@ -7,21 +7,21 @@ ghost use Rattle.std.specs.Orderings.{When};
 ghost use Rattle.text.specs.Lines.{point, top, blank, inside, in-line, onward, AllAre, Stops, WordNext, NoWord, LineNext, LastLine, NoMore, WordBelow, end-place};
 
 /// A line and a column of a text, both from 1. A place past the largest number is that number.
-#[derive(Clone, Copy, Debug, PartialEq, Eq)]
+#[derive(Clone, Copy)]
 pub struct Place {
     pub line: usize,
     pub column: usize,
 }
 
 /// Bytes of a text, and the place of the first.
-#[derive(Clone, Copy, Debug)]
+#[derive(Clone, Copy)]
 pub struct Word<'a> {
     pub text: &'a [u8],
     pub place: Place,
 }
 
 /// What is left of a text, and the place where it begins.
-#[derive(Clone, Copy, Debug)]
+#[derive(Clone, Copy)]
 pub struct Reader<'a> {
     rest: &'a [u8],
     place: Place,

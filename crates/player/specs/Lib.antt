@@ -1,0 +1,3 @@
+-- Definitions for playing papers.
+pub mod Wording
+pub mod Items
