@@ -25,7 +25,7 @@ pub enum KindName {
     Pair(SimpleKind, SimpleKind),
 }
 
-/// A map from a simple kind: `cleared` with a clearance from 1 to 4, `under` with a condition from 0 to 63.
+/// A map from a simple kind: `cleared` with a clearance from 1 to 4, `under` with an assignment from 0 to 63.
 #[derive(Clone, Copy)]
 pub enum SimpleMap {
     Present,

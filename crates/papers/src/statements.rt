@@ -171,8 +171,8 @@ fn simple_map<'a>(
             Ok(SimpleMap::Cleared(clearance))
         }
         (Some(MapWord::Under), SimpleKind::Condition) => {
-            let condition = number_within(reader, 0, 63, Expected::Condition)?;
-            Ok(SimpleMap::Under(condition))
+            let assignment = number_within(reader, 0, 63, Expected::Assignment)?;
+            Ok(SimpleMap::Under(assignment))
         }
         (Some(other), _) => Err(misfit(word, other, part, KindName::Simple(kind))),
         (None, _) => Err(Mistake::at(word, map_of(part))),

@@ -96,14 +96,14 @@ fn push_variables(heap: Global, text: &mut String, i: u8) -> Result<(), AllocErr
     Ok(())
 }
 
-// The smallest sets of variables that make the condition with these bits true, as `x0 and x1, or x2`.
+// The smallest sets of variables that make the condition with these bits true, as `x0 and x1 or x2`.
 fn least_sets(heap: Global, bits: u64) -> Result<String, AllocError> {
     let mut text = String::new(heap);
     let mut first = true;
     for i in 0u8..64 {
         if truth_tables::is_least(bits, i) {
             if !first {
-                text.push_str(", or ")?;
+                text.push_str(" or ")?;
             }
             first = false;
             push_variables(heap, &mut text, i)?;
