@@ -61,8 +61,13 @@ fn run(rt: &LibcRuntime) -> Result<(), AnyError> {
         let text = read_input(rt)?;
         return show(rt, heap, "standard input", &text);
     }
-    let text = fs::read(rt, word.as_str())?;
-    show(rt, heap, word.as_str(), &text)
+    match fs::read(rt, word.as_str()) {
+        Ok(text) => show(rt, heap, word.as_str(), &text),
+        Err(e) => {
+            rt.eprintln(format!(heap, "solbuter: {word} cannot be read")?)?;
+            Err(e.into())
+        }
+    }
 }
 
 fn main(rt: LibcRuntime) -> Result<(), AnyError> {
