@@ -9,7 +9,7 @@ ghost use Rattle.kinds.specs.Conditions.{conditions};
 use crate::codes::Coded;
 use crate::semiring::Kind;
 
-// Bits that are not closed upward stand for the condition with the fewest ones that has all of theirs.
+/// Bits that are not closed upward stand for the condition with the fewest ones that has all of theirs.
 #[derive(Clone, Copy, Debug)]
 pub struct Condition {
     pub bits: u64,
@@ -68,7 +68,7 @@ pub impl Coded for Condition as ConditionCoded {
     }
 }
 
-// The condition that variable j is true, for j from 0 to 5.
+/// The condition that variable j is true, for j from 0 to 5.
 pub fn variable(j: usize) -> Option<Condition>
     ensures { λ r. ⌜ BySome r (6 ≤ j) (λ c. Variable j (c .bits)) ⌝ }
 {

@@ -4,10 +4,10 @@ ghost use Rattle.kinds.specs.Upto.{held, counts};
 use crate::codes::Coded;
 use crate::semiring::Kind;
 
-// The largest count.
+/// The largest count.
 pub const MOST: u32 = 1_000_000;
 
-// A number above the largest count stands for the largest count.
+/// A number above the largest count stands for the largest count.
 #[derive(Clone, Copy, Debug)]
 pub struct Count {
     pub times: u32,

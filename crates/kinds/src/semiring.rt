@@ -2,7 +2,7 @@
 ghost use mathlib.Core.Path.{_≡_};
 ghost use Rattle.kinds.specs.Semiring.{Semiring, Lawful};
 
-// A plain value of the type has no invariant, and stands for one annotation; several may stand for one.
+/// A plain value of the type has no invariant, and stands for one annotation; several may stand for one.
 pub trait Kind: Copy {
     // The kind's annotations and their operations.
     ghost ring: { Semiring };
@@ -25,12 +25,12 @@ pub trait Kind: Copy {
     fn times(self, other: Self) -> Self
         ensures { λ r. ⌜ means r ≡ ring .times (means self) (means other) ⌝ };
 
-    // Whether the two stand for one annotation.
+    /// Whether the two stand for one annotation.
     fn same(self, other: Self) -> bool
         ensures { λ r. ⌜ r ≡ ring .same (means self) (means other) ⌝ };
 }
 
-// Every kind is lawful.
+/// Every kind is lawful.
 pub fn lawful<K: Kind>()
     ensures { λ _. ⌜ Lawful (K·Kind .ring) ⌝ }
 {}

@@ -20,7 +20,7 @@ use kinds::pairs::PairKind;
 use kinds::semiring::Kind;
 use std::marker::PhantomData;
 
-// A map from the kind K to the kind L.
+/// A map from the kind K to the kind L.
 pub trait Map<K: Kind, L: Kind> {
     // The image of a plain value.
     ghost image: { Self → K → L };
@@ -28,12 +28,12 @@ pub trait Map<K: Kind, L: Kind> {
     fn map(&self, x: K) -> L
         ensures { λ r. ⌜ r ≡ image (now (self .entry)) x ⌝ };
 
-    // What the map keeps. Generic code learns it by calling this function, which does nothing else.
+    /// What the map keeps. Generic code learns it by calling this function, which does nothing else.
     fn homomorphism(&self)
         ensures { λ _. ⌜ Mapping (K·Kind .ring) (L·Kind .ring) (K·Kind .means) (L·Kind .means) (image (now (self .entry))) ⌝ };
 }
 
-// Whether a count is above 0.
+/// Whether a count is above 0.
 #[derive(Clone, Copy, Debug)]
 pub struct Present;
 
@@ -47,7 +47,7 @@ pub impl Map<Count, Flag> for Present as PresentMap {
     fn homomorphism(&self) {}
 }
 
-// Whether a clearance is at least the one of rank `from`.
+/// Whether a clearance is at least the one of rank `from`.
 #[derive(Clone, Copy, Debug)]
 pub struct Cleared {
     from: u8,
@@ -55,7 +55,7 @@ pub struct Cleared {
 }
 
 impl Cleared {
-    // The map from this rank up, or none unless it is from 1 to 4.
+    /// The map from this rank up, or none unless it is from 1 to 4.
     pub fn new(from: u8) -> Option<Cleared>
         ensures { λ r. ⌜ BySome r ((1 ≤ from → from ≤ 4 → ⊥)) (λ m. m .from ≡ from) ⌝ }
     {
@@ -79,7 +79,7 @@ pub impl Map<Clearance, Flag> for Cleared as ClearedMap {
     fn homomorphism(&self) {}
 }
 
-// The value of a condition under assignment number `at`: variable xj is true where `at` has bit j.
+/// The value of a condition under assignment number `at`: variable xj is true where `at` has bit j.
 #[derive(Clone, Copy, Debug)]
 pub struct Under {
     at: u8,
@@ -87,7 +87,7 @@ pub struct Under {
 }
 
 impl Under {
-    // The map under this assignment, or none where its number is above 63.
+    /// The map under this assignment, or none where its number is above 63.
     pub fn new(at: u8) -> Option<Under>
         ensures { λ r. ⌜ BySome r (64 ≤ at) (λ m. m .at ≡ at) ⌝ }
     {
@@ -107,7 +107,7 @@ pub impl Map<Condition, Flag> for Under as UnderMap {
     fn homomorphism(&self) {}
 }
 
-// The left half of a pair.
+/// The left half of a pair.
 #[derive(Clone, Copy, Debug)]
 pub struct Left;
 
@@ -121,7 +121,7 @@ pub impl<K: Kind, L: Kind> Map<Pair<K, L>, K> for Left as LeftMap {
     fn homomorphism(&self) {}
 }
 
-// The right half of a pair.
+/// The right half of a pair.
 #[derive(Clone, Copy, Debug)]
 pub struct Right;
 
@@ -135,7 +135,7 @@ pub impl<K: Kind, L: Kind> Map<Pair<K, L>, L> for Right as RightMap {
     fn homomorphism(&self) {}
 }
 
-// The first map, then the second; M is the kind between them.
+/// The first map, then the second; M is the kind between them.
 #[derive(Clone, Copy, Debug)]
 pub struct Chain<F, G, M> {
     pub first: F,

@@ -27,12 +27,12 @@ use text::numbers::number;
 use text::split::at_comma;
 use text::words::Word;
 
-// A kind whose annotations a paper can write.
+/// A kind whose annotations a paper can write.
 pub trait Item: Kind {
     fn read_item<'a>(word: Word<'a>) -> Result<Self, Mistake<'a>>;
 }
 
-// The annotation whose code the word writes; a mistake at the word where it writes none.
+/// The annotation whose code the word writes; a mistake at the word where it writes none.
 pub fn coded_item<'a, K: Coded>(word: Word<'a>, kind: SimpleKind) -> Result<K, Mistake<'a>>
     ensures { λ r. ⌜ Cases r (Codes (K·Coded .number) (word-bytes (word .entry))) (λ e. (e .place ≡ word .entry .place) × ((v : K) → Codes (K·Coded .number) (word-bytes (word .entry)) v → ⊥)) ⌝ }
 {

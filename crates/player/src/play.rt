@@ -298,7 +298,7 @@ fn play_simple<'a>(heap: Global, paper: &Paper<'a>, map: SimpleMap) -> Result<St
     }
 }
 
-// Reads a paper and plays it: what it did in words, or what is wrong with the paper.
+/// Reads a paper and plays it: what it did in words, or what is wrong with the paper.
 pub fn play<'a>(heap: Global, text: &'a [u8]) -> Result<String, Failure<'a>> {
     let paper = read_paper(heap, text)?;
     match (paper.kind, paper.map) {

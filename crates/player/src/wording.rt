@@ -17,7 +17,7 @@ use kinds::pairs::Pair;
 use std::alloc::AllocError;
 use std::alloc::Global;
 
-// An annotation that can be told in words.
+/// An annotation that can be told in words.
 pub trait Worded: Copy {
     // Which bytes tell the annotation that the value stands for.
     ghost told: { Self → List ℕ → Type 0 };
@@ -47,7 +47,7 @@ pub impl Worded for Count as CountWorded {
     }
 }
 
-// The name of a clearance.
+/// The name of a clearance.
 pub fn clearance_name(x: Clearance) -> &'static str
     ensures { λ r. ⌜ now r ≡ clearance-word x ⌝ }
 {

@@ -12,25 +12,25 @@ use maps::Map;
 use std::alloc::AllocError;
 use std::alloc::Global;
 
-// What `coarsen` found.
+/// What `coarsen` found.
 #[derive(Drop)]
 pub struct Coarsening<K: Kind, L: Kind> {
-    // The image of each annotation, in order.
+    /// The image of each annotation, in order.
     pub images: Vec<L>,
-    // The sum and the product of the row.
+    /// The sum and the product of the row.
     pub sum: K,
     pub product: K,
-    // Their images: first added up or multiplied, then mapped.
+    /// Their images: first added up or multiplied, then mapped.
     pub sum_mapped: L,
     pub product_mapped: L,
-    // The sum and the product of the images: first mapped, then added up or multiplied.
+    /// The sum and the product of the images: first mapped, then added up or multiplied.
     pub mapped_sum: L,
     pub mapped_product: L,
-    // Whether mapping before and after gave the same sum and the same product.
+    /// Whether mapping before and after gave the same sum and the same product.
     pub agree: bool,
 }
 
-// The images of a row under a map.
+/// The images of a row under a map.
 pub fn map_row<K: Kind, L: Kind, M: Map<K, L>>(
     heap: Global,
     m: &M,
@@ -45,7 +45,7 @@ pub fn map_row<K: Kind, L: Kind, M: Map<K, L>>(
     Ok(images)
 }
 
-// Maps a row, adds it up and multiplies it, before the map and after it. Unless memory is short, both orders agree.
+/// Maps a row, adds it up and multiplies it, before the map and after it. Unless memory is short, both orders agree.
 pub fn coarsen<K: Kind, L: Kind, M: Map<K, L>>(
     heap: Global,
     m: &M,

@@ -5,7 +5,7 @@ ghost use lib.ListN.{length, getD};
 ghost use Rattle.rows.specs.Rows.{Rewritten};
 use kinds::semiring::Kind;
 
-// Adds each annotation of `source` to the one at its place in `target`, as far as the shorter row goes.
+/// Adds each annotation of `source` to the one at its place in `target`, as far as the shorter row goes.
 pub fn add_row<K: Kind>(target: &mut [K], source: &[K])
     ensures target { λ _. ⌜ Rewritten means (min (length (now (target .entry))) (length (now (source .entry)))) (λ i d. ring .plus (means (getD (now (target .entry)) i d)) (means (getD (now (source .entry)) i d))) (now (target .entry)) (now (target .exit)) ⌝ }
     ensures source { λ _. ⌜ now (source .exit) ≡ now (source .entry) ⌝ }
@@ -15,7 +15,7 @@ pub fn add_row<K: Kind>(target: &mut [K], source: &[K])
     }
 }
 
-// Adds `by` times each annotation of `source` to the one at its place in `target`, as far as the shorter row goes.
+/// Adds `by` times each annotation of `source` to the one at its place in `target`, as far as the shorter row goes.
 pub fn add_scaled_row<K: Kind>(target: &mut [K], source: &[K], by: K)
     ensures target { λ _. ⌜ Rewritten means (min (length (now (target .entry))) (length (now (source .entry)))) (λ i d. ring .plus (means (getD (now (target .entry)) i d)) (ring .times (means by) (means (getD (now (source .entry)) i d)))) (now (target .entry)) (now (target .exit)) ⌝ }
     ensures source { λ _. ⌜ now (source .exit) ≡ now (source .entry) ⌝ }
@@ -25,7 +25,7 @@ pub fn add_scaled_row<K: Kind>(target: &mut [K], source: &[K], by: K)
     }
 }
 
-// Multiplies each annotation of a row by `by`.
+/// Multiplies each annotation of a row by `by`.
 pub fn scale_row<K: Kind>(target: &mut [K], by: K)
     ensures { λ _. ⌜ Rewritten means (length (now (target .entry))) (λ i d. ring .times (means by) (means (getD (now (target .entry)) i d))) (now (target .entry)) (now (target .exit)) ⌝ }
 {
@@ -34,7 +34,7 @@ pub fn scale_row<K: Kind>(target: &mut [K], by: K)
     }
 }
 
-// Sets each annotation of a row to zero.
+/// Sets each annotation of a row to zero.
 pub fn clear_row<K: Kind>(target: &mut [K])
     ensures { λ _. ⌜ Rewritten means (length (now (target .entry))) (λ _ _. ring .zero) (now (target .entry)) (now (target .exit)) ⌝ }
 {

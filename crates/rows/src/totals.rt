@@ -4,7 +4,7 @@ ghost use mathlib.Core.List.{map};
 ghost use Rattle.rows.specs.Rows.{total, product, nonzero};
 use kinds::semiring::Kind;
 
-// How many annotations of a row are not zero.
+/// How many annotations of a row are not zero.
 pub fn count_nonzero<K: Kind>(row: &[K]) -> usize
     ensures { λ r. ⌜ r ≡ nonzero ring (map means (now (row .entry))) ⌝ }
 {
@@ -17,7 +17,7 @@ pub fn count_nonzero<K: Kind>(row: &[K]) -> usize
     count
 }
 
-// The sum of a row.
+/// The sum of a row.
 pub fn sum_row<K: Kind>(row: &[K]) -> K
     ensures { λ r. ⌜ means r ≡ total ring (map means (now (row .entry))) ⌝ }
 {
@@ -28,7 +28,7 @@ pub fn sum_row<K: Kind>(row: &[K]) -> K
     sum
 }
 
-// The product of a row.
+/// The product of a row.
 pub fn multiply_row<K: Kind>(row: &[K]) -> K
     ensures { λ r. ⌜ means r ≡ product ring (map means (now (row .entry))) ⌝ }
 {

@@ -50,7 +50,8 @@ pub record Closes (x r : ℕ) : Type 0 where
   pub covers : Covers x r
   pub least : (y : ℕ) → Closed y → Covers x y → Covers r y
 
--- x is the truth table of variable j among the first six: closed, and bit i set exactly where i has bit j. So is the function that it stands for.
+-- x is the truth table of variable j, one of six: it is closed, bit i is set exactly where i has bit j, and the function that it stands
+-- for has these values.
 pub record Variable (j x : ℕ) : Type 0 where
   pub range : j < 6
   pub closed : Closed x

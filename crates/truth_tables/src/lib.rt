@@ -9,7 +9,7 @@ ghost use Rattle.std.specs.Orderings.{Decides};
 ghost use Rattle.truth_tables.specs.Monotone.{agree, always, never, or-of, and-of};
 ghost use Rattle.truth_tables.specs.Tables.{assignment, bit, code, function, least-at, Closed, Closes, Variable};
 
-// The bits of the function that x stands for: each step adds, for one variable, what holds without it.
+/// The bits of the function that x stands for: each step adds, for one variable, what holds without it.
 pub fn closed(x: u64) -> u64
     ensures code { λ r. ⌜ r ≡ code (function x) ⌝ }
     ensures closes { λ r. ⌜ Closes x r ⌝ }
@@ -22,7 +22,7 @@ pub fn closed(x: u64) -> u64
     x | ((x << 32) & 0xFFFF_FFFF_0000_0000)
 }
 
-// Whether x is closed: then its bits are those of the function that it stands for, and otherwise of no function.
+/// Whether x is closed: then its bits are those of the function that it stands for, and otherwise of no function.
 pub fn is_closed(x: u64) -> bool
     ensures closed { λ r. ⌜ Decides r (Closed x) ⌝ }
     ensures code { λ r. ⌜ Decides r (code (function x) ≡ x) ⌝ }
@@ -31,35 +31,35 @@ pub fn is_closed(x: u64) -> bool
     closed(x) == x
 }
 
-// Always true, or never.
+/// Always true, or never.
 pub fn constant(value: bool) -> u64
     ensures { λ r. ⌜ function r ≡ cond value (always 6) (never 6) ⌝ }
 {
     if value { 0xFFFF_FFFF_FFFF_FFFF } else { 0 }
 }
 
-// True where one of the two is.
+/// True where one of the two is.
 pub fn either(x: u64, y: u64) -> u64
     ensures { λ r. ⌜ function r ≡ or-of 6 (function x) (function y) ⌝ }
 {
     x | y
 }
 
-// True where both are.
+/// True where both are.
 pub fn both(x: u64, y: u64) -> u64
     ensures { λ r. ⌜ function r ≡ and-of 6 (function x) (function y) ⌝ }
 {
     closed(x) & closed(y)
 }
 
-// Whether the two stand for one function.
+/// Whether the two stand for one function.
 pub fn alike(x: u64, y: u64) -> bool
     ensures { λ r. ⌜ r ≡ agree 6 (function x .0) (function y .0) ⌝ }
 {
     closed(x) == closed(y)
 }
 
-// The value at the assignment of i, whose lowest six bits are the variables.
+/// The value at the assignment of i, whose lowest six bits are the variables.
 pub fn value_at(x: u64, i: u8) -> bool
     ensures { λ r. ⌜ r ≡ function x .0 (assignment 6 i) ⌝ }
 {
@@ -76,7 +76,7 @@ const VARIABLES: [u64; 6] = [
     0xFFFF_FFFF_0000_0000,
 ];
 
-// The truth table of variable j, for j from 0 to 5.
+/// The truth table of variable j, for j from 0 to 5.
 pub fn variable(j: usize) -> Option<u64>
     ensures { λ r. ⌜ BySome r (6 ≤ j) (λ x. Variable j x) ⌝ }
 {
@@ -98,7 +98,7 @@ fn holds_without(x: u64, i: u8, j: u8) -> bool
     (x >> (i - (1 << j))) % 2 == 1
 }
 
-// Whether i is below 64, bit i of x is set, and none that has one variable less is.
+/// Whether i is below 64, bit i of x is set, and none that has one variable less is.
 pub fn is_least(x: u64, i: u8) -> bool
     ensures { λ r. ⌜ r ≡ (ltb i 64 && least-at x i) ⌝ }
 {
