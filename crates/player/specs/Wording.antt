@@ -1,6 +1,6 @@
 -- The words in which annotations are printed.
 use mathlib.Core.Bool.{Bool, cond}
-use mathlib.Core.List.{List}
+use mathlib.Core.List.{List, _++_}
 use Prim.Native.Nat.{ℕ}
 use lib.Chars.{codes}
 use Rattle.kinds.specs.declared.clearances.Clearance.{Clearance}
@@ -15,3 +15,7 @@ clearance-word Top = codes "top"
 clearance-word Secret = codes "secret"
 clearance-word Confidential = codes "confidential"
 clearance-word Public = codes "public"
+
+-- two halves in brackets
+abbrev pub pair-words : List ℕ → List ℕ → List ℕ
+pair-words l r = codes "(" ++ (l ++ (codes ", " ++ (r ++ codes ")")))

@@ -5,7 +5,7 @@ ghost use Prim.Native.Nat.{ℕ, min};
 ghost use Rattle.std.specs.Of.String.{string-bytes};
 ghost use Rattle.std.specs.Vec.{made};
 ghost use Rattle.std.specs.Written.{decimal};
-ghost use Rattle.player.specs.Wording.{flag-word, clearance-word};
+ghost use Rattle.player.specs.Wording.{flag-word, clearance-word, pair-words};
 use kinds::clearances::Clearance;
 use kinds::codes::Coded;
 use kinds::conditions::Condition;
@@ -70,7 +70,7 @@ pub impl Worded for Clearance as ClearanceWorded {
 
 // A pair in brackets, as `(yes, 3)`.
 pub impl<L: Worded, R: Worded> Worded for Pair<L, R> as PairWorded {
-    ghost told = { λ _ _. Unit {0} };
+    ghost told = { λ p bs. (l : List ℕ) × (r : List ℕ) × L·Worded .told (p .left) l × R·Worded .told (p .right) r × (bs ≡ pair-words l r) };
 
     fn words(self, heap: Global) -> Result<String, AllocError> {
         let Pair { left, right } = self;
