@@ -4,6 +4,6 @@ use mathlib.Core.List.{List}
 use Prim.Native.Nat.{ℕ, _^_, _<_}
 use Rattle.text.specs.Numerals.{Writes, value-of}
 
--- The bytes are a numeral, and the number that they write is the code of the annotation that v stands for.
-abbrev pub Codes : {K : Type 0} → (K → ℕ) → List ℕ → K → Type 0
-Codes code bytes v = Writes bytes × (value-of bytes < 2 ^ 64) × (code v ≡ value-of bytes)
+-- The bytes are a numeral that writes the code, which is below 2^64 as every code is.
+abbrev pub Spells : ℕ → List ℕ → Type 0
+Spells code bytes = Writes bytes × (value-of bytes < 2 ^ 64) × (code ≡ value-of bytes)
