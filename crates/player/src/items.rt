@@ -9,7 +9,6 @@ ghost use Rattle.kinds.specs.Clearances.{rank};
 ghost use Rattle.std.specs.Results.{Cases};
 ghost use Rattle.text.specs.Lines.{word-bytes};
 ghost use Rattle.player.specs.Items.{Spells};
-use crate::wording::Worded;
 use grammar::mistakes::Expected;
 use grammar::mistakes::Mistake;
 use grammar::names::SimpleKind;
