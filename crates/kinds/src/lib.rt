@@ -1,4 +1,6 @@
 // Annotation kinds: the commutative semirings that the whole engine is written over, five of them, and their codes.
+#![tactic(auto)]
+
 pub mod clearances;
 pub mod codes;
 pub mod conditions;

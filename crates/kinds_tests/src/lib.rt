@@ -1,4 +1,6 @@
 // Tests of the annotation kinds: corner values, plain values that are not canonical, maps at their ends, what is refused.
+#![tactic(auto)]
+
 #[cfg(test)]
 mod tests {
     use kinds::clearances::Clearance;

@@ -1,4 +1,6 @@
 // Maps from one kind to another that keep zero, one, plus and times.
+#![tactic(auto)]
+
 ghost use Rattle.std.specs.Prelude.{◌≡◌, ◌<◌, ◌≤◌, MatchOption, nat_le, nat_lt};
 ghost use Rattle.kinds.specs.Clearances.{rank};
 ghost use Rattle.truth_tables.specs.Tables.{assignment, function};

@@ -1,4 +1,6 @@
 // The program: plays a paper from a file, from standard input, or the built-in sample, and prints what it did.
+#![tactic(auto)]
+
 use anyhow::anyhow;
 use papers::statements::Failure;
 use player::play::play;

@@ -1,5 +1,7 @@
 // Plays each paper of its standard input, with a line of dashes after each, and prints what came out: what was played, or
 // the mistake. The gate compares this with what it should be.
+#![tactic(auto)]
+
 use papers::statements::Failure;
 use player::play::play;
 use std::io::Read;

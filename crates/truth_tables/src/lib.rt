@@ -1,5 +1,7 @@
 // Monotone Boolean functions of six variables x0 to x5, held as 64 bits. Bit i, counted from the lowest, is the value where
 // variable xj has bit j of i. Bits that are not closed upward stand for the function with the fewest ones that has all of theirs.
+#![tactic(auto)]
+
 ghost use Rattle.std.specs.Prelude.{◌≡◌, ℕ, ◌-◌, ◌^◌, ◌<◌, ◌≤◌, true, false, ◌&&◌, if◌then◌else◌, Decides, MatchOption, ◌≢◌, nat_lt};
 ghost use Rattle.truth_tables.specs.Monotone.{agree, always, never, or_of, and_of};
 ghost use Rattle.truth_tables.specs.Tables.{assignment, bit, code, function, least_at, Closed, Closes, Variable};

@@ -1,4 +1,6 @@
 // Worked examples, computed over the definitions.
+#![tactic(auto)]
+
 ghost use Rattle.std.specs.Prelude.{◌≡◌, true};
 ghost use Rattle.worked_examples.specs.Showing.{all_hold};
 ghost use Rattle.kinds.specs.Flags.{flags};
