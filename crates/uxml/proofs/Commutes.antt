@@ -5,7 +5,7 @@ use mathlib.Core.List.Memᴰ.{head as first}
 use mathlib.Core.List.Memᴰ.{tail as later}
 use mathlib.Core.List.{Memᴰ as On}
 use Rattle.kinds.specs.Semiring.{Semiring, Lawful}
-use Rattle.formats.specs.Trees.{tree, trees, children}
+use Rattle.formats.specs.Trees.{trees, children}
 use Rattle.formats.specs.Queries.{Query, none, document, tree_of, held, both, scaled, make, named, child, below, only_of, for_each, let_be, if_name, if_alike}
 use Rattle.uxml.specs.Forests.{TreeOf as T, ForestOf as F, below_tree}
 use Rattle.uxml.specs.Normal.{Normal, nil, more}
