@@ -15,7 +15,7 @@ import sys
 PART = r"[\w'≤≢¬ℕ]+"
 DASHED = re.compile(r"(?<![\w'≤≢¬ℕ-])" + PART + r"(?:-" + PART + r")+(?![\w'≤≢¬ℕ-])")
 DECLARED = re.compile(r"^\s*(?:(?:pub|abbrev|unfoldable|record|data)\s+)*((?:" + PART + r"(?:-" + PART + r")*)(?:,\s*" + PART + r"(?:-" + PART + r")*)*)\s+(?:\{[^}]*\}\s*|\([^)]*\)\s*)*:\s(.*)")
-MADE = re.compile(r"^(?:invariant-loop|decreases-loop|loop|returns|overflow|bounds|slice_bounds|nonzero|offset_bounds)-|-(?:requires|init|preserved|smaller)$")
+MADE = re.compile(r"^(?:invariant-loop|decreases-loop|loop|returns|overflow|bounds|slice_bounds|nonzero_div|nonzero_rem|offset_bounds)-|-(?:requires|init|preserved|smaller)$")
 LIBRARY = re.compile(r"use (?!Rattle\.(?:truth_tables|kinds|maps|rows|text|grammar|papers|player|formats|uxml|worked_examples)\b)([\w.·'-]+)\.\{([^}]*)\}")
 # Names that would fall together with a function's or with the library's.
 APART = {

@@ -1,5 +1,5 @@
 -- The laws of the numbers up to a top: counts and ranks.
-use Rattle.std.specs.Prelude.{◌≡◌, ℕ, zero, suc, ◌+◌, ◌*◌, ◌≤◌, min, max, Decides, refl}
+use Rattle.std.specs.Prelude.{◌≡◌, ℕ, zero, suc, ◌+◌, ◌*◌, ◌≤◌, min, max, Decides}
 use Rattle.std.proofs.Common.{sym, ap, ◌∙◌, mul_assoc, mul_comm, mul-one, mul-zero, add-mul, mul-le-mul_left, mul-le-mul_right, le_trans}
 use Rattle.std.proofs.Math.Path.{fst_path}
 use mathlib.Core.HLevel.{Σ_prop_path}
@@ -7,7 +7,7 @@ use Rattle.std.proofs.Math.Bridge.{le_prop}
 use Rattle.std.proofs.Math.Nat.{min-eq_left, zero-min, min-le_left, max-le}
 use native.Mathlib.Omega.{arith, min_cases}
 use Rattle.kinds.specs.Semiring.{Lawful}
-use Rattle.kinds.specs.Upto.{Upto, held, ranks, counts, same_number}
+use Rattle.kinds.specs.Upto.{Upto, ranks, counts, same_number}
 use Rattle.std.proofs.lemmas.Bool.Decides.{Decides-eqb, Decides-like}
 
 pub by_number : {top : ℕ} {a b : Upto top} → a.0 ≡ b.0 → a ≡ b

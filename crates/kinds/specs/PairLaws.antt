@@ -1,5 +1,4 @@
 -- A pair of lawful kinds is lawful.
-use Rattle.std.specs.Prelude.{◌≡◌}
 use Rattle.std.proofs.Common.{ap}
 use Rattle.std.proofs.lemmas.Bool.Decides.{Decides-and, Decides-like}
 use Rattle.kinds.specs.Semiring.{Semiring, Lawful}

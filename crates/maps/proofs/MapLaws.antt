@@ -1,5 +1,5 @@
 -- The maps between kinds are homomorphisms.
-use Rattle.std.proofs.Common.{◌≡◌, ℕ, zero, suc, ◌+◌, ◌*◌, ◌≤◌, min, max, Bool, true, false, ◌&&◌, ◌||◌, ltb, leb, sym, refl, ap, ◌∙◌, mul-le-mul, mul-zero, zero-mul, arith}
+use Rattle.std.proofs.Common.{◌≡◌, ℕ, zero, suc, ◌+◌, ◌*◌, ◌≤◌, min, max, ◌&&◌, ltb, leb, sym, refl, ap, ◌∙◌, mul-le-mul, mul-zero, zero-mul, arith}
 use Rattle.std.proofs.lemmas.Bool.Decides.{nat_tests}
 use Rattle.std.proofs.lemmas.Bool.{lt-ltb, lt-leb, le-leb}
 use Rattle.truth_tables.specs.Monotone.{Assignment}
@@ -7,7 +7,7 @@ use Rattle.truth_tables.proofs.BoolLaws.{and_false}
 use Rattle.kinds.specs.Conditions.{conditions}
 use Rattle.kinds.specs.Semiring.{Semiring}
 use Rattle.kinds.specs.Flags.{flags}
-use Rattle.kinds.specs.Upto.{Upto, held, ranks, counts}
+use Rattle.kinds.specs.Upto.{ranks, counts}
 use Rattle.kinds.specs.Pairs.{pairs}
 use Rattle.maps.specs.Maps.{Homomorphism}
 

@@ -40,18 +40,18 @@ module _ {X A : Type 0} (means : X → A) (op : A → A → A) (e : A) where
 
 module _ {X : Type 0} (R : Semiring) (means : X → R.carrier) (xs : List X) where
   -- how many are not zero from place i on
-  abbrev pub nonzero-from : ℕ → ℕ
-  nonzero-from i = nonzero R (map means (drop i xs))
+  abbrev pub nonzero_from : ℕ → ℕ
+  nonzero_from i = nonzero R (map means (drop i xs))
 
   -- the next place counts unless its value z is the same as zero
-  pub nonzero-more : (i : ℕ) (x z : X) (b : Bool) → i < length xs → x ≡ get_or xs i x → means z ≡ R.zero → b ≡ R.same (means x) (means z)
-      → nonzero-from i ≡ cond b (nonzero-from (i + 1)) (1 + nonzero-from (i + 1))
-  nonzero-more i x z b h at e test =
+  pub nonzero_more : (i : ℕ) (x z : X) (b : Bool) → i < length xs → x ≡ get_or xs i x → means z ≡ R.zero → b ≡ R.same (means x) (means z)
+      → nonzero_from i ≡ cond b (nonzero_from (i + 1)) (1 + nonzero_from (i + 1))
+  nonzero_more i x z b h at e test =
       ap (λ ys. nonzero R (map means ys)) (drop_more xs i x h ∙ ap (λ y. y ∷ drop (i + 1) xs) (sym at))
-      ∙ ap (λ t. cond t (nonzero-from (i + 1)) (1 + nonzero-from (i + 1))) (sym (test ∙ ap (R.same (means x)) e))
+      ∙ ap (λ t. cond t (nonzero_from (i + 1)) (1 + nonzero_from (i + 1))) (sym (test ∙ ap (R.same (means x)) e))
 
-  pub nonzero-all : (i : ℕ) → length xs ≤ i → nonzero-from i ≡ 0
-  nonzero-all i h = ap (λ ys. nonzero R (map means ys)) (drop_all i xs h)
+  pub nonzero_all : (i : ℕ) → length xs ≤ i → nonzero_from i ≡ 0
+  nonzero_all i h = ap (λ ys. nonzero R (map means ys)) (drop_all i xs h)
 
 -- What keeps an operation and its unit keeps every fold of a row: f joins and then maps, image maps and then joins.
 pub keeps_fold : {K L A B : Type 0} (from : K → A) (to : L → B) (image : K → L) (f : A → B) (op : A → A → A) (unit : A) (op' : B → B → B) (unit' : B)

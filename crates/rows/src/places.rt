@@ -6,8 +6,8 @@ use kinds::semiring::Kind;
 
 /// Adds each annotation of `source` to the one at its place in `target`, as far as the shorter row goes.
 pub fn add_row<K: Kind>(target: &mut [K], source: &[K])
-    ensures target { Rewritten means (min (length target.old) (length source.now)) (λ i d. ring.plus (means (slice_index_or target.old i d)) (means (slice_index_or source.now i d))) target.old target.new }
-    ensures source { source.now ≡ source.now }
+    ensures target { Rewritten K.Kind.means (min (length target.old) (length source.now)) (λ i d. K.Kind.ring.plus (K.Kind.means (slice_index_or target.old i d)) (K.Kind.means (slice_index_or source.now i d))) target.old target.new }
+    ensures source { source.exit.now ≡ source.entry.now }
 {
     for i in 0..target.len().min(source.len()) {
         target[i] = target[i].plus(source[i]);
@@ -16,8 +16,8 @@ pub fn add_row<K: Kind>(target: &mut [K], source: &[K])
 
 /// Adds `by` times each annotation of `source` to the one at its place in `target`, as far as the shorter row goes.
 pub fn add_scaled_row<K: Kind>(target: &mut [K], source: &[K], by: K)
-    ensures target { Rewritten means (min (length target.old) (length source.now)) (λ i d. ring.plus (means (slice_index_or target.old i d)) (ring.times (means by) (means (slice_index_or source.now i d)))) target.old target.new }
-    ensures source { source.now ≡ source.now }
+    ensures target { Rewritten K.Kind.means (min (length target.old) (length source.now)) (λ i d. K.Kind.ring.plus (K.Kind.means (slice_index_or target.old i d)) (K.Kind.ring.times (K.Kind.means by) (K.Kind.means (slice_index_or source.now i d)))) target.old target.new }
+    ensures source { source.exit.now ≡ source.entry.now }
 {
     for i in 0..target.len().min(source.len()) {
         target[i] = target[i].plus(by.times(source[i]));
@@ -26,7 +26,7 @@ pub fn add_scaled_row<K: Kind>(target: &mut [K], source: &[K], by: K)
 
 /// Multiplies each annotation of a row by `by`.
 pub fn scale_row<K: Kind>(target: &mut [K], by: K)
-    ensures { Rewritten means (length target.old) (λ i d. ring.times (means by) (means (slice_index_or target.old i d))) target.old target.new }
+    ensures { Rewritten K.Kind.means (length target.old) (λ i d. K.Kind.ring.times (K.Kind.means by) (K.Kind.means (slice_index_or target.old i d))) target.old target.new }
 {
     for x in target.iter_mut() {
         *x = by.times(*x);
@@ -35,7 +35,7 @@ pub fn scale_row<K: Kind>(target: &mut [K], by: K)
 
 /// Sets each annotation of a row to zero.
 pub fn clear_row<K: Kind>(target: &mut [K])
-    ensures { Rewritten means (length target.old) (λ _ _. ring.zero) target.old target.new }
+    ensures { Rewritten K.Kind.means (length target.old) (λ _ _. K.Kind.ring.zero) target.old target.new }
 {
     for x in target.iter_mut() {
         *x = K::zero();

@@ -6,7 +6,7 @@ use kinds::semiring::Kind;
 
 /// How many annotations of a row are not zero.
 pub fn count_nonzero<K: Kind>(row: &[K]) -> usize
-    ensures { result ≡ nonzero ring (map means row.now) }
+    ensures { result ≡ nonzero K.Kind.ring (map K.Kind.means row.now) }
 {
     let mut count = 0;
     for x in row {
@@ -19,7 +19,7 @@ pub fn count_nonzero<K: Kind>(row: &[K]) -> usize
 
 /// The sum of a row.
 pub fn sum_row<K: Kind>(row: &[K]) -> K
-    ensures { means result ≡ total ring (map means row.now) }
+    ensures { K.Kind.means result ≡ total K.Kind.ring (map K.Kind.means row.now) }
 {
     let mut sum = K::zero();
     for x in row {
@@ -30,7 +30,7 @@ pub fn sum_row<K: Kind>(row: &[K]) -> K
 
 /// The product of a row.
 pub fn multiply_row<K: Kind>(row: &[K]) -> K
-    ensures { means result ≡ product ring (map means row.now) }
+    ensures { K.Kind.means result ≡ product K.Kind.ring (map K.Kind.means row.now) }
 {
     let mut result = K::one();
     for x in row {

@@ -1,6 +1,5 @@
 -- The bits of a number, one by one; the numbers of assignments; truth tables as numbers.
 use Rattle.std.proofs.Common.{◌≡◌, ℕ, zero, suc, ◌+◌, ◌-◌, ◌*◌, ◌/◌, ◌%◌, ◌^◌, ◌<◌, ◌≤◌, Bool, true, false, cond, ◌&&◌, ◌||◌, eqb, sym, refl, ap, ◌∙◌, ap₂, ⊎_elim, add-zero, mul-le-mul_right, mod-lt, add-mul, add_comm, one-mul, pow-suc, div-add-mod', zero-add, zero-mul, mul-one, mul-add, div-one, add-one, one-add, arith, pow-add, shr-shr, shr_lt}
-use mathlib.Core.Bool.{So}
 use native.Mathlib.Nat.{mod-one, div-eq_of_lt}
 use Rattle.std.proofs.lemmas.Bool.{cases_lt}
 use lib.Arith.{lt-one}

@@ -1,12 +1,12 @@
 -- Closing 64 bits upward: the six steps of the program, the function that bits stand for, and the bits of a function.
-use Rattle.std.proofs.Common.{◌≡◌, ℕ, zero, suc, ◌+◌, ◌-◌, ◌*◌, ◌/◌, ◌%◌, ◌^◌, ◌<◌, ◌≤◌, Bool, true, false, cond, not, ◌&&◌, ◌||◌, eqb, ltb, leb, Decides, sym, refl, ap, ◌∙◌, ap₂, ⊎_elim, lt_of_le_of_lt, mod-eq_of_lt, arith}
+use Rattle.std.proofs.Common.{◌≡◌, ℕ, zero, suc, ◌-◌, ◌*◌, ◌%◌, ◌^◌, ◌<◌, Bool, true, false, cond, not, ◌&&◌, ◌||◌, eqb, ltb, leb, Decides, sym, refl, ap, ◌∙◌, ap₂, ⊎_elim, lt_of_le_of_lt, mod-eq_of_lt, arith}
 use mathlib.Core.Path.{fun_ext}
 use mathlib.Core.Bool.{So, false≢true}
 use Rattle.std.proofs.lemmas.Bool.Decides.{Decides-below_and, Decides-eqb, Decides-like}
 use Rattle.std.proofs.lemmas.Bool.{leb-true, ltb-true, and_parts, cases_eq}
 use lib.Bits.{bit_and, bit_or, or_lt, and_le_r}
-use Rattle.truth_tables.specs.Monotone.{Assignment, Within, Rises, Monotone, raised, or_of, and_of}
-use Rattle.truth_tables.specs.Tables.{bit, index, assignment, function, packed, code, Among, Closed, Covers, Closes}
+use Rattle.truth_tables.specs.Monotone.{Assignment, Within, Monotone, raised, or_of, and_of}
+use Rattle.truth_tables.specs.Tables.{bit, index, assignment, function, packed, code, Closed, Closes}
 use Rattle.truth_tables.proofs.BoolLaws.{or_comm, or_false, and_true, and_false}
 use Rattle.truth_tables.proofs.Bitwise.{bit_of_or, bit_of_and, bit_shl, by_bits, index_assignment, index_lt, index_low, index_top, assignment_index, packed_lt, bit_packed}
 use Rattle.truth_tables.proofs.MonotoneLaws.{by_value, raised_same, raised_or, raised_above, raised_least}

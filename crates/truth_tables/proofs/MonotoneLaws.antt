@@ -1,5 +1,5 @@
 -- Monotone functions by their values, and the least one above a function.
-use Rattle.std.proofs.Common.{◌≡◌, ℕ, zero, suc, Bool, true, false, ◌&&◌, ◌||◌, Decides, sym, refl, ap, ◌∙◌, ap₂, ⊎_elim}
+use Rattle.std.proofs.Common.{◌≡◌, ℕ, zero, suc, Bool, true, false, ◌||◌, Decides, sym, refl, ◌∙◌, ap₂, ⊎_elim}
 use mathlib.Core.HLevel.{Σ_prop_path}
 use mathlib.Core.Bool.{So, So-prop}
 use Rattle.std.proofs.lemmas.Bool.Decides.{Decides-and, Decides-like}

@@ -1,5 +1,5 @@
 -- The six variables: one test at each of the 384 places, which the checker computes.
-use Rattle.std.proofs.Common.{◌≡◌, ℕ, ◌<◌, Bool, ◌&&◌, List, [], ◌∷◌, get_or, sym, refl, ap, ◌∙◌}
+use Rattle.std.proofs.Common.{◌≡◌, ℕ, ◌<◌, Bool, ◌&&◌, List, [], ◌∷◌, get_or, sym, refl, ◌∙◌}
 use mathlib.Core.Bool.{So, beq}
 use Rattle.std.proofs.lemmas.Bool.{and_parts}
 use Rattle.truth_tables.specs.Tables.{bit, assignment, function, Variable}

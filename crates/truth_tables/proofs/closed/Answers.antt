@@ -1,4 +1,4 @@
-use Rattle.std.proofs.Common.{◌≡◌, refl, ◌∙◌}
+use Rattle.std.proofs.Common.{refl, ◌∙◌}
 use Rattle.truth_tables.specs.Tables.{bit, index, function}
 use Rattle.truth_tables.proofs.Bitwise.{index_lt}
 use Rattle.truth_tables.proofs.Closing.{BitsOf, Has, steps, has_step, steps_raise, bits_code, bits_close}

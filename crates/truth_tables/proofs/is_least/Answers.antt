@@ -4,7 +4,7 @@ use Rattle.truth_tables.specs.Tables.{least_below}
 use Rattle.truth_tables.proofs.is_least.Goals as goal
 
 pub loop-j-preserved : goal.loop-j-preserved
-loop-j-preserved c = ap₂ (λ p q. p && not q) c.loop-j.invariant c.holds-without.ensures ∙ ap (least_below c.args.x c.args.i) (sym (add-one c.loop-j.j))
+loop-j-preserved c = ap₂ (λ p q. p && not q) c.loop-j.invariant c.holds_without.ensures ∙ ap (least_below c.args.x c.args.i) (sym (add-one c.loop-j.j))
 
 pub returns : goal.returns
 returns c =

@@ -1,4 +1,4 @@
-use Rattle.std.proofs.Common.{◌≡◌, true, map, vec_items, sym, ap, ◌∙◌}
+use Rattle.std.proofs.Common.{◌≡◌, map, sym, ap, ◌∙◌}
 use Rattle.std.proofs.lemmas.Bool.{and_from}
 use Rattle.rows.specs.Rows.{total, product}
 use Rattle.rows.proofs.RowLaws.{keeps_fold}
@@ -12,22 +12,22 @@ returns g c =
     let image = g.M.Map.image c.args.m.now in
     let row = c.args.row.now in
     let h = c.homomorphism.ensures in
-    let images = c.in-ok-images.ensures in
-    let sums = c.sum-row-mapped-sum.ensures ∙ ap (λ xs. total l.ring (map l.means xs)) c.deref.ensures.value in
-    let products = c.multiply-row-mapped-product.ensures ∙ ap (λ xs. product l.ring (map l.means xs)) c.deref-2.ensures.value in
-    let sum : l.means c.map-sum-mapped.result ≡ l.means c.sum-row-mapped-sum.result =
-    ap l.means c.map-sum-mapped.ensures ∙ h.agrees _ ∙ ap h.on c.sum-row-sum.ensures
+    let images = c.in_ok-images.ensures in
+    let sums = c.sum_row-mapped_sum.ensures ∙ ap (λ xs. total l.ring (map l.means xs)) c.deref.ensures.value in
+    let products = c.multiply_row-mapped_product.ensures ∙ ap (λ xs. product l.ring (map l.means xs)) c.deref-2.ensures.value in
+    let sum : l.means c.map-sum_mapped.result ≡ l.means c.sum_row-mapped_sum.result =
+    ap l.means c.map-sum_mapped.ensures ∙ h.agrees _ ∙ ap h.on c.sum_row-sum.ensures
     ∙ keeps_fold k.means l.means image h.on k.ring.plus k.ring.zero l.ring.plus l.ring.zero h.agrees h.keeps.keeps_zero h.keeps.keeps_plus row
     ∙ sym (sums ∙ ap (λ xs. total l.ring (map l.means xs)) images) in
-    let prod : l.means c.map-product-mapped.result ≡ l.means c.multiply-row-mapped-product.result =
-    ap l.means c.map-product-mapped.ensures ∙ h.agrees _ ∙ ap h.on c.multiply-row-product.ensures
+    let prod : l.means c.map-product_mapped.result ≡ l.means c.multiply_row-mapped_product.result =
+    ap l.means c.map-product_mapped.ensures ∙ h.agrees _ ∙ ap h.on c.multiply_row-product.ensures
     ∙ keeps_fold k.means l.means image h.on k.ring.times k.ring.one l.ring.times l.ring.one h.agrees h.keeps.keeps_one h.keeps.keeps_times row
     ∙ sym (products ∙ ap (λ xs. product l.ring (map l.means xs)) images) in
     record {
       images = images;
-      sums = c.sum-row-sum.ensures;
-      products = c.multiply-row-product.ensures;
-      after = (c.map-sum-mapped.ensures, c.map-product-mapped.ensures);
+      sums = c.sum_row-sum.ensures;
+      products = c.multiply_row-product.ensures;
+      after = (c.map-sum_mapped.ensures, c.map-product_mapped.ensures);
       before = (sums, products);
       agree = (sum, prod, and_from _ _ (c.same.ensures ∙ (law.same_exact _ _).1 sum) (c.same-2.ensures ∙ (law.same_exact _ _).1 prod));
     }

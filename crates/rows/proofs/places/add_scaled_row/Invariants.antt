@@ -1,4 +1,4 @@
-use Rattle.std.proofs.Common.{length, get_or}
+use Rattle.std.proofs.Common.{get_or}
 use Rattle.rows.specs.Rows.{Rewritten}
 use Rattle.rows.proofs.places.add_scaled_row.Given as goal
 
