@@ -7,7 +7,6 @@ use Rattle.grammar.specs.declared.names.KindName.TheVariants.{Simple, Pair}
 use Rattle.grammar.specs.declared.names.SimpleMap.{SimpleMap}
 use Rattle.grammar.specs.declared.names.SimpleMap.TheVariants.{Present, Cleared, Under}
 use Rattle.grammar.specs.declared.names.MapWord.{MapWord}
-use Rattle.grammar.specs.declared.names.MapWord.TheVariants as MapWord
 use Rattle.grammar.specs.declared.names.MapName.{MapName}
 use Rattle.grammar.specs.declared.names.MapName.TheVariants.{Direct, Left, Right}
 

@@ -1,11 +1,12 @@
 -- Words one after the other: what is left of the text gets shorter.
-use Rattle.std.proofs.Common.{◌≡◌, ℕ, ◌+◌, ◌<◌, ◌≤◌, Bool, true, false, not, List, [], ◌∷◌, ◌++◌, length, Decides, sym, refl, ap, ◌∙◌, subst, append_assoc, append-nil, arith, length-append}
-use Rattle.std.specs.Cmp.Lexicographic.{Matches}
+use Rattle.std.proofs.Common.{◌≡◌, ℕ, ◌<◌, ◌≤◌, Bool, true, false, not, List, [], ◌∷◌, ◌++◌, length, eqb, sym, refl, ap, ◌∙◌, subst, append_assoc, append-nil, arith, length-append}
+use Rattle.std.specs.Cmp.Lexicographic.{pointwise}
 use Rattle.std.proofs.lemmas.Slice.Eq.{slice_eq-Decides}
 use Rattle.text.specs.declared.words.Word.{Word}
 use Rattle.text.specs.Lines.{Point, word_bytes, NoWord, NoMore, WordNext, WordBelow, Skips, stay, line}
 use Rattle.papers.specs.Papers.{Row, WholeRow, ItemsLine, ItemsLines, AllItems, none, more}
 use Rattle.text.proofs.Cuts.{below_shorter}
+use Rattle.text.proofs.Single.{clash}
 use Rattle.std.proofs.lemmas.Bool.Decides.{Decides-eqb}
 
 pub word_shorter : {p q : Point} {w : Word} → WordNext p w q → length q.left < length p.left
@@ -44,12 +45,18 @@ all_items_lem {p} {r = r} {vs = vs} {ws = ws} first others ended is = (
   ended,
 )
 
+was_true : (b : Bool) → not b ≡ false → b ≡ true
+was_true true h = refl
+was_true false h = sym h
+
+was_false : (b : Bool) → not b ≡ true → b ≡ false
+was_false true h = sym h
+was_false false h = refl
+
 -- what `!=` says of two texts where it is false
-pub same_from_ne : (xs ys : List ℕ) (r : Bool) → (x : Bool) × Matches (λ (a b : ℕ) (t : Bool). Decides t (a ≡ b)) xs ys x × (r ≡ not x) → r ≡ false → xs ≡ ys
-same_from_ne xs ys r (true, h, e) f = (slice_eq-Decides Decides-eqb xs ys true h).0 refl
-same_from_ne xs ys r (false, h, e) f = let z : false ≡ true = sym f ∙ e in (slice_eq-Decides Decides-eqb xs ys false h).0 z
+pub same_from_ne : (xs ys : List ℕ) (r : Bool) → r ≡ not (pointwise eqb xs ys) → r ≡ false → xs ≡ ys
+same_from_ne xs ys r e f = (slice_eq-Decides Decides-eqb xs ys _ refl).0 (was_true _ (sym e ∙ f))
 
 -- and where it is true
-pub differs : (xs ys : List ℕ) (r : Bool) → (x : Bool) × Matches (λ (a b : ℕ) (t : Bool). Decides t (a ≡ b)) xs ys x × (r ≡ not x) → r ≡ true → xs ≡ ys → ⊥
-differs xs ys r (true, h, e) f same = let z : false ≡ true = sym e ∙ f in let w : ◌≡◌ {A = ℕ} 0 1 = cc in omega arith
-differs xs ys r (false, h, e) f same = let z : false ≡ true = (slice_eq-Decides Decides-eqb xs ys false h).1 same in let w : ◌≡◌ {A = ℕ} 0 1 = cc in omega arith
+pub differs : (xs ys : List ℕ) (r : Bool) → r ≡ not (pointwise eqb xs ys) → r ≡ true → xs ≡ ys → ⊥
+differs xs ys r e f same = clash _ ((slice_eq-Decides Decides-eqb xs ys _ refl).1 same) (was_false _ (sym e ∙ f))

@@ -110,7 +110,7 @@ fn kind<'a>(reader: &mut Reader<'a>) -> Result<KindName, Mistake<'a>>
     ensures { Told result (point reader.new) (KindNext (point reader.old)) }
 {
     let word = next(reader, Expected::Kind)?;
-    if word.text == b"pair" {
+    if word.text == b"pair".as_slice() {
         let left = half(reader, Expected::LeftHalf)?;
         let right = half(reader, Expected::RightHalf)?;
         return Ok(KindName::Pair(left, right));
@@ -193,7 +193,7 @@ fn then<'a>(
     let Some(then) = reader.word() else {
         return Ok(None);
     };
-    if then.text == b"then" {
+    if then.text == b"then".as_slice() {
         let word = next(reader, Expected::MapOfHalf)?;
         let map = simple_map(reader, word, part, half)?;
         return Ok(Some(map));
@@ -268,7 +268,7 @@ fn all_items<'a>(heap: Global, reader: &mut Reader<'a>) -> Result<Vec<Word<'a>>,
     begin(reader, b"items", Expected::ItemsLine)?;
     annotations(reader, &mut items)?;
     while let Some(word) = reader.first_word() {
-        if word.text != b"items" {
+        if word.text != b"items".as_slice() {
             return Err(Failure::Mistake(Mistake::at(word, Expected::MoreItems)));
         }
         annotations(reader, &mut items)?;

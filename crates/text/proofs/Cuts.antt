@@ -1,5 +1,5 @@
 -- A text cut after its first bytes, and what the reader of words makes of the parts.
-use Rattle.std.proofs.Common.{◌≡◌, ℕ, ◌+◌, ◌-◌, ◌^◌, ◌<◌, ◌≤◌, min, Bool, true, false, not, eqb, List, [], ◌∷◌, ◌++◌, length, get_or, take, drop, sym, refl, ap, ◌∙◌, subst, add-zero, arith, length-append, length-drop, take-append-drop, length-take-le, get_or-drop, get_or-take, true-eqb}
+use Rattle.std.proofs.Common.{◌≡◌, ℕ, ◌+◌, ◌-◌, ◌^◌, ◌<◌, ◌≤◌, min, Bool, true, false, not, eqb, List, ◌∷◌, ◌++◌, length, get_or, take, drop, sym, refl, ap, ◌∙◌, subst, add-zero, arith, length-append, length-drop, take-append-drop, length-take-le, get_or-drop, get_or-take, true-eqb}
 use Rattle.std.proofs.lemmas.List.{drop_more}
 use Rattle.text.specs.declared.words.Place.{Place}
 use Rattle.text.specs.declared.words.Word.{Word}

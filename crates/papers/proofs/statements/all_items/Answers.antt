@@ -6,28 +6,28 @@ use Rattle.papers.proofs.Whole.{broke_off, handed_on, rest_on, no_other, no_anno
 use Rattle.papers.proofs.statements.all_items.Goals as goal
 
 -- the line that a turn of the loop reads
-turn : (c : goal.In-ok-annotations-2) → ItemsLine (point c.loop-word.reader) c.in-ok-annotations-2.ensures.0 (point c.annotations-in-Some.new.reader)
+turn : (c : goal.In_ok-annotations-2) → ItemsLine (point c.loop-word.reader) c.in_ok-annotations-2.ensures.0 (point c.annotations-in-Some.new.reader)
 turn c = (
-  point c.first-word.new.self,
-  (c.in-Some.word, c.in-Some.ensures, same_from_ne _ _ _ c.ne.ensures c.if-ne.false),
-  c.in-ok-annotations-2.ensures.2,
+  point c.first_word.new.self,
+  (c.in-Some.word, c.in-Some.ensures, same_from_ne _ _ _ c.ne.ensures c.if-ne.false ∙ c.as_slice.ensures),
+  c.in_ok-annotations-2.ensures.2,
 )
 
-pub returns-in-err-begin : goal.returns-in-err-begin
-returns-in-err-begin c = broke_off _ _ _ c.from-residual.ensures.0 (no_items c.in-err-begin.ensures)
+pub returns-in_err-begin : goal.returns-in_err-begin
+returns-in_err-begin c = broke_off _ _ _ c.from_residual.ensures.0 (no_items c.in_err-begin.ensures)
 
-pub returns-in-err-annotations : goal.returns-in-err-annotations
-returns-in-err-annotations c = handed_on _ _ _ _ _ c.from-residual-in-err-annotations.ensures.1 (no_first_row c.in-ok-begin.ensures) c.in-err-annotations.ensures
+pub returns-in_err-annotations : goal.returns-in_err-annotations
+returns-in_err-annotations c = handed_on _ _ _ _ _ c.from_residual-in_err-annotations.ensures.1 (no_first_row c.in_ok-begin.ensures) c.in_err-annotations.ensures
 
 pub returns-then-ne : goal.returns-then-ne
 returns-then-ne c =
-    let new = c.in-ok-annotations.ensures in
-    no_later_row (point c.begin.new.reader, c.in-ok-begin.ensures, new.2) c.loop-word.invariant.3 (no_other c.in-Some.ensures (differs _ _ _ c.ne.ensures c.if-ne.true))
+    let new = c.in_ok-annotations.ensures in
+    no_later_row (point c.begin.new.reader, c.in_ok-begin.ensures, new.2) c.loop-word.invariant.3 (no_other c.in-Some.ensures (λ e. differs _ _ _ c.ne.ensures c.if-ne.true (e ∙ sym c.as_slice.ensures)))
 
-pub returns-in-err-annotations-2 : goal.returns-in-err-annotations-2
-returns-in-err-annotations-2 c =
-    let new = c.in-ok-annotations.ensures in
-    handed_on _ _ _ _ _ c.from-residual-in-err-annotations-2.ensures.1 (λ h. no_later_row (point c.begin.new.reader, c.in-ok-begin.ensures, new.2) c.loop-word.invariant.3 (no_annotations (c.in-Some.word, c.in-Some.ensures, same_from_ne _ _ _ c.ne.ensures c.if-ne.false) h)) c.in-err-annotations-2.ensures
+pub returns-in_err-annotations-2 : goal.returns-in_err-annotations-2
+returns-in_err-annotations-2 c =
+    let new = c.in_ok-annotations.ensures in
+    handed_on _ _ _ _ _ c.from_residual-in_err-annotations-2.ensures.1 (λ h. no_later_row (point c.begin.new.reader, c.in_ok-begin.ensures, new.2) c.loop-word.invariant.3 (no_annotations (c.in-Some.word, c.in-Some.ensures, same_from_ne _ _ _ c.ne.ensures c.if-ne.false ∙ c.as_slice.ensures) h)) c.in_err-annotations-2.ensures
 
 pub loop-word-init : goal.loop-word-init
 loop-word-init c = ([], sym (append-nil _), none, λ h. h)
@@ -38,12 +38,12 @@ loop-word-smaller c = line_shorter (turn c)
 pub loop-word-preserved : goal.loop-word-preserved
 loop-word-preserved c =
     let old = c.loop-word.invariant in
-    let new = c.in-ok-annotations-2.ensures in
+    let new = c.in_ok-annotations-2.ensures in
     (old.0 ++ new.0, new.1 ∙ ap (λ l. l ++ new.0) old.1 ∙ append_assoc _ old.0 new.0, lines_on old.2 (turn c), λ h. rest_on (turn c) (old.3 h))
 
 pub returns : goal.returns
 returns c =
     let old = c.loop-word.invariant in
-    let new = c.in-ok-annotations.ensures in
+    let new = c.in_ok-annotations.ensures in
     let from-none = new.1 ∙ ap (λ l. l ++ new.0) c.new-items.ensures.items in
-    all_items_lem (point c.begin.new.reader, c.in-ok-begin.ensures, new.2) old.2 c.in-default.ensures (old.1 ∙ ap (λ l. l ++ old.0) from-none)
+    all_items_lem (point c.begin.new.reader, c.in_ok-begin.ensures, new.2) old.2 c.in_default.ensures (old.1 ∙ ap (λ l. l ++ old.0) from-none)

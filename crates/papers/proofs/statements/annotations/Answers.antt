@@ -5,8 +5,8 @@ use Rattle.papers.proofs.Rows.{word_shorter, row_on, row_ends}
 use Rattle.papers.proofs.Whole.{broke_off, no_row}
 use Rattle.papers.proofs.statements.annotations.Goals as goal
 
-pub returns-in-err-first : goal.returns-in-err-first
-returns-in-err-first c = broke_off _ _ _ c.from-residual.ensures.0 (no_row c.in-err-first.ensures)
+pub returns-in_err-first : goal.returns-in_err-first
+returns-in_err-first c = broke_off _ _ _ c.from_residual.ensures.0 (no_row c.in_err-first.ensures)
 
 pub loop-word-init : goal.loop-word-init
 loop-word-init c = ([], sym (append-nil _), none)
@@ -18,13 +18,13 @@ pub loop-word-preserved : goal.loop-word-preserved
 loop-word-preserved c =
     let old = c.loop-word.invariant in
     let last = c.in-Some.word ∷ [] in
-    let added = c.in-ok-push-2.ensures.items in
+    let added = c.in_ok-push-2.ensures.items in
     (old.0 ++ last, added ∙ ap (λ l. l ++ last) old.1 ∙ append_assoc _ old.0 last, row_on old.2 c.in-Some.ensures)
 
 pub returns : goal.returns
 returns c =
     let old = c.loop-word.invariant in
-    let first = c.in-ok-first.first in
-    let ended = c.in-default.ensures in
-    let added = c.in-ok-push.ensures.items in
-    (first ∷ old.0, old.1 ∙ ap (λ l. l ++ old.0) added ∙ append_assoc _ (first ∷ []) old.0, row_ends c.in-ok-first.ensures old.2 ended.0 (ap point ended.1))
+    let first = c.in_ok-first.first in
+    let ended = c.in_default.ensures in
+    let added = c.in_ok-push.ensures.items in
+    (first ∷ old.0, old.1 ∙ ap (λ l. l ++ old.0) added ∙ append_assoc _ (first ∷ []) old.0, row_ends c.in_ok-first.ensures old.2 ended.0 (ap point ended.1))

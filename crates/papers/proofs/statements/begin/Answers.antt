@@ -4,8 +4,8 @@ use Rattle.text.proofs.Single.{clash, one_first, not_first}
 use Rattle.papers.proofs.statements.begin.Goals as goal
 use Rattle.std.proofs.lemmas.Bool.Decides.{Decides-eqb}
 
-pub returns-in-default : goal.returns-in-default
-returns-in-default c = λ _ q b. not_first c.in-default.ensures b.1
+pub returns-in_default : goal.returns-in_default
+returns-in_default c = λ _ q b. not_first c.in_default.ensures b.1
 
 pub returns-then-eq : goal.returns-then-eq
 returns-then-eq c = (c.in-Some.word, c.in-Some.ensures, (slice_eq-Decides Decides-eqb _ _ _ c.eq.ensures).0 c.if-eq.true)

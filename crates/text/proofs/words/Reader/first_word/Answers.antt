@@ -7,9 +7,9 @@ pub loop-word-init : goal.loop-word-init
 loop-word-init c = stay
 
 pub loop-word-smaller : goal.loop-word-smaller
-loop-word-smaller c = below_shorter _ _ (from_same _ _ _ (ap point c.in-default.ensures.1) c.if-not-next-line.ensures)
+loop-word-smaller c = below_shorter _ _ (from_same _ _ _ (ap point c.in_default.ensures.1) c.if-not-next_line.ensures)
 
 pub loop-word-preserved : goal.loop-word-preserved
 loop-word-preserved c =
-    let empty = c.in-default.ensures in
-    skips_on c.loop-word.invariant empty.0 (from_same _ _ _ (ap point empty.1) c.if-not-next-line.ensures)
+    let empty = c.in_default.ensures in
+    skips_on c.loop-word.invariant empty.0 (from_same _ _ _ (ap point empty.1) c.if-not-next_line.ensures)

@@ -5,5 +5,5 @@ use Rattle.text.proofs.words.Reader.next_line.Goals as goal
 
 pub returns : goal.returns
 returns c =
-    let told = c.line-len-n.ensures in
-    line_next _ _ c.line-len-n.result (omega arith) told.all told.stops (take_rest c.args.self.now.rest.now _) (at_line c.saturating-add.ensures)
+    let told = c.line_len-n.ensures in
+    line_next _ _ c.line_len-n.result (omega arith) told.all told.stops (take_rest c.args.self.now.rest.now _) (at_line c.saturating_add.ensures)
