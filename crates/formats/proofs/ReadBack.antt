@@ -78,10 +78,10 @@ beside_empty (entry t i g) = ap (entry t i) (beside_empty g)
 
 module _ (bytes : List ℕ) (items : ℕ) where
   -- how reading goes on after what was written
-  pub record Goes_on (before : ℕ) (at : ℕ) (outer : List Open) (here : Forest ℕ) (after : ℕ) (then-here : Forest ℕ) (rest : List ℕ) : Type 0 where
+  pub record GoesOn (before : ℕ) (at : ℕ) (outer : List Open) (here : Forest ℕ) (after : ℕ) (then_here : Forest ℕ) (rest : List ℕ) : Type 0 where
     pub end : ℕ
     pub left : drop end bytes ≡ rest
-    pub same : commands bytes items before at outer here ≡ commands bytes items after end outer then-here
+    pub same : commands bytes items before at outer here ≡ commands bytes items after end outer then_here
 
   go_open : (n at : ℕ) (outer : List Open) (here : Forest ℕ) (l i : ℕ) → event bytes items at (length outer) ≡ Ok (Opens l i)
       → commands bytes items (suc n) at outer here ≡ commands bytes items n (at + 5) (record { label = l; item = i; elder = here } ∷ outer) empty
@@ -100,7 +100,7 @@ module _ (bytes : List ℕ) (items : ℕ) where
   mutual
     reads_tree : (t : Tree ℕ) (i n at levels : ℕ) (outer : List Open) (here : Forest ℕ) (rest : List ℕ)
         → ProperTree items levels t → Item items i → levels + length outer ≤ 32 → drop at bytes ≡ write_tree t i rest
-        → Goes_on (turns_tree t n) at outer here n (beside here (entry t i empty)) rest
+        → GoesOn (turns_tree t n) at outer here n (beside here (entry t i empty)) rest
     reads_tree (tree l f) i n at levels outer here rest p q fit d =
         let b = next bytes at 0x10 (two_bytes l (two_bytes i (write_forest f (0x11 ∷ rest)))) d in
         let wl = two bytes (at + 1) l (two_bytes i (write_forest f (0x11 ∷ rest))) b.rest in
@@ -119,7 +119,7 @@ module _ (bytes : List ℕ) (items : ℕ) where
 
     reads_forest : (f : Forest ℕ) (n at levels : ℕ) (outer : List Open) (here : Forest ℕ) (rest : List ℕ)
         → Proper items levels f → levels + length outer ≤ 32 → drop at bytes ≡ write_forest f rest
-        → Goes_on (turns f n) at outer here n (beside here f) rest
+        → GoesOn (turns f n) at outer here n (beside here f) rest
     reads_forest empty n at levels outer here rest p fit d = record { end = at; left = d; same = ap (commands bytes items n at outer) (sym (beside_empty here)) }
     reads_forest (entry t i f) n at levels outer here rest p fit d =
         let g = reads_tree t i (turns f n) at levels outer here (write_forest f rest) p.0 p.1 fit d in

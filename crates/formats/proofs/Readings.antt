@@ -1,7 +1,7 @@
 -- Small laws of readings.
 use Rattle.std.proofs.Common.{◌≡◌, ℕ, Bool, true, false, Ok, Err, refl, arith}
 use Rattle.formats.specs.declared.refusals.Refusal.{Refusal}
-use Rattle.formats.specs.Reading.{Reading, refuse, refuse_if, ◌then◌}
+use Rattle.formats.specs.Reading.{Reading, refuse_if, ◌then◌}
 
 -- What passes a test that would refuse it.
 pub passed : {X : Type 0} (b : Bool) (r : Refusal) (at : ℕ) (x : Reading X) (y : X) → refuse_if b r at x ≡ Ok y → (b ≡ false) × (x ≡ Ok y)

@@ -243,46 +243,46 @@ mod tests {
     }
 
     // Each row function, at values a and b of one kind.
-    macro_rules! rows {
-        ($a:expr, $b:expr, $zero:expr) => {{
+    macro_rules! try_rows {
+        ($rt:expr, $a:expr, $b:expr, $zero:expr) => {{
             let mut row = [$a, $b, $zero];
             add_row(&mut row, &[$b, $b]);
-            check(row[0].same($a.plus($b)) & row[1].same($b.plus($b)) & row[2].same($zero))?;
+            assert!($rt; row[0].same($a.plus($b)) & row[1].same($b.plus($b)) & row[2].same($zero));
             add_scaled_row(&mut row, &[$a, $a, $a, $a], $b);
-            check(row[0].same($a.plus($b).plus($b.times($a))) & row[2].same($b.times($a)))?;
+            assert!($rt; row[0].same($a.plus($b).plus($b.times($a))) & row[2].same($b.times($a)));
             scale_row(&mut row, $b);
-            check(row[2].same($b.times($b.times($a))))?;
+            assert!($rt; row[2].same($b.times($b.times($a))));
             clear_row(&mut row);
-            check(row[0].same($zero) & row[1].same($zero) & (count_nonzero(&row) == 0))?;
+            assert!($rt; row[0].same($zero) & row[1].same($zero) & (count_nonzero(&row) == 0));
             let two = [$a, $b];
-            check(sum_row(&two).same($a.plus($b)) & multiply_row(&two).same($a.times($b)))
+            assert!($rt; sum_row(&two).same($a.plus($b)) & multiply_row(&two).same($a.times($b)));
         }};
     }
 
     #[test]
-    fn rows_of_flags() -> Result<(), Fail> {
-        rows!(YES, NO, NO)
+    fn rows_of_flags(rt: HostRuntime) {
+        try_rows!(rt, YES, NO, NO);
     }
 
     #[test]
-    fn rows_of_counts(rt: HostRuntime) -> Result<(), Fail> {
+    fn rows_of_counts(rt: HostRuntime) {
         assert!(rt; count_nonzero(&[count(0), count(5), count(0), count(u32::MAX)]) == 2);
-        rows!(count(3), count(u32::MAX), count(0))
+        try_rows!(rt, count(3), count(u32::MAX), count(0));
     }
 
     #[test]
-    fn rows_of_clearances() -> Result<(), Fail> {
-        rows!(Clearance::Top, Clearance::Confidential, Clearance::None)
+    fn rows_of_clearances(rt: HostRuntime) {
+        try_rows!(rt, Clearance::Top, Clearance::Confidential, Clearance::None);
     }
 
     #[test]
-    fn rows_of_conditions() -> Result<(), Fail> {
-        rows!(condition(2), condition(12), condition(0))
+    fn rows_of_conditions(rt: HostRuntime) {
+        try_rows!(rt, condition(2), condition(12), condition(0));
     }
 
     #[test]
-    fn rows_of_pairs() -> Result<(), Fail> {
-        rows!(both(YES, 2), both(NO, 5), both(NO, 0))
+    fn rows_of_pairs(rt: HostRuntime) {
+        try_rows!(rt, both(YES, 2), both(NO, 5), both(NO, 0));
     }
 
     #[test]

@@ -5,7 +5,7 @@ use mathlib.Core.List.Memᴰ.{head as first}
 use mathlib.Core.List.Memᴰ.{tail as later}
 use mathlib.Core.List.{Memᴰ as On}
 use Rattle.kinds.specs.Semiring.{Semiring, Lawful}
-use Rattle.formats.specs.Trees.{tree, trees, children}
+use Rattle.formats.specs.Trees.{trees, children}
 use Rattle.formats.specs.Queries.{Query, none, document, tree_of, held, both, scaled, make, named, child, below, only_of, for_each, let_be, if_name, if_alike}
 use Rattle.uxml.specs.Forests.{TreeOf as T, ForestOf as F, below_tree}
 use Rattle.uxml.specs.Normal.{Normal, nil, more}
@@ -13,7 +13,7 @@ use Rattle.uxml.specs.Evaluation.{Bound, a_tree, a_forest, bound_tree, bound_for
 use Rattle.uxml.specs.Equality.{Pairwise, done, next, Same}
 use Rattle.uxml.proofs.Lawful.{clash}
 use Rattle.uxml.proofs.Same.{same_sym, same_trans}
-use Rattle.uxml.proofs.Total.{at_same, at_in, nonzero-in, absent}
+use Rattle.uxml.proofs.Total.{at_same, at_in, nonzero_in, absent}
 use Rattle.uxml.proofs.Known.{trees_in, in_trees}
 use Rattle.uxml.proofs.Hom.{Hom}
 use Rattle.uxml.proofs.Image.{TreeTo, ForestTo, source, empty_to, label_to, make_to, add_to, union_to, scale_to, only_to, children_to, below_to, sum_to}
@@ -46,7 +46,7 @@ pub trees_apart : {L : Semiring} (L✓ : Lawful L) {Y : Type 0} (R : T L → Y �
 trees_apart L✓ R c nil = tt
 trees_apart L✓ R c (more {t} {f} x e m n) = (
   λ u i y p q. let j = (trees_in f i).1 in
-      nonzero-in L✓ j n (sym (at_in L✓ j n) ∙ (at_same L✓ f (c t u y p q) ∙ absent L✓ t f e)),
+      nonzero_in L✓ j n (sym (at_in L✓ j n) ∙ (at_same L✓ f (c t u y p q) ∙ absent L✓ t f e)),
   trees_apart L✓ R c n,
 )
 

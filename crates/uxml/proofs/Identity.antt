@@ -1,7 +1,6 @@
 -- The image under the identity is the tree itself; so equal scopes are images of one another, and answers in them are equal.
 use Rattle.std.proofs.Common.{◌≡◌, true, List, [], ◌∷◌, get_or, sym, refl, ap, ◌∙◌, le_antisymm}
 use Rattle.kinds.specs.Semiring.{Semiring, Lawful}
-use Rattle.formats.specs.Trees.{tree}
 use Rattle.uxml.specs.Forests.{TreeOf as T, ForestOf as F, total, at, Equal, known}
 use Rattle.uxml.specs.Normal.{Normal, NormalTree}
 use Rattle.uxml.specs.Images.{image_tree}

@@ -9,7 +9,7 @@ use Rattle.uxml.specs.Images.{image, image_tree}
 use Rattle.uxml.specs.Equality.{Same}
 use Rattle.uxml.proofs.Lawful.{plus_times, zero_plus, zero_times}
 use Rattle.uxml.proofs.Same.{tree_ind, by_same, same_refl, same_trans, same_left, same_label, same_parts}
-use Rattle.uxml.proofs.Total.{at_in, nonzero-in, in_node, normal_in, Linear, Steady, total_ext, total_add, total_union, total_scale, total_sum, total_only, only_at, at_linear, at_steady, at_only, keep_add, keep_union, keep_scale, keep_sum, keep_only, below_sum}
+use Rattle.uxml.proofs.Total.{at_in, nonzero_in, in_node, normal_in, Linear, Steady, total_ext, total_add, total_union, total_scale, total_sum, total_only, only_at, at_linear, at_steady, at_only, keep_add, keep_union, keep_scale, keep_sum, keep_only, below_sum}
 use Rattle.uxml.proofs.Order.{order, same_from_equal, equal_from_same}
 use Rattle.uxml.proofs.Hom.{Hom}
 
@@ -84,7 +84,7 @@ module _ {K L : Semiring} {h : K.carrier → L.carrier} (hom : Hom K L h) where
 
   -- a tree of an image has an original
   pub source : {f : F K} {f' : F L} → ForestTo f f' → {t' : T L} {b : L.carrier} → In t' b f' → (t : T K) × (a : K.carrier) × In t a f × TreeTo t t'
-  source {f} p {t'} i = let x = origin f t' (λ e. nonzero-in hom.L✓ i p.to (sym (at_in hom.L✓ i p.to) ∙ (sym (p.equal t') ∙ e))) in
+  source {f} p {t'} i = let x = origin f t' (λ e. nonzero_in hom.L✓ i p.to (sym (at_in hom.L✓ i p.to) ∙ (sym (p.equal t') ∙ e))) in
       (x.0, x.1, x.2, record { from = normal_in x.2 p.from; to = normal_in i p.to; same = x.3 })
 
   -- a sum over an image is a sum over what it is the image of

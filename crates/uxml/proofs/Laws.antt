@@ -10,7 +10,7 @@ use Rattle.uxml.specs.Evaluation.{Bound, a_tree, a_forest, bound_tree, Scope, An
 use Rattle.uxml.specs.Equality.{no_more, and_each, Same, NormalBound, of_tree, of_forest, NormalScope}
 use Rattle.uxml.specs.Laws.{Equivalence, ListsItsTrees, MakesNormal, gives, one_at, sum_at, GivesNothing, GivesADocument, GivesATree, GivesAForest, GivesTheSum, GivesTheMultiple, GivesANewTree, GivesANamedTree, GivesTheChildren, GivesAllBelow, GivesThoseLabelled, GivesForEach, GivesWithTheForest, GivesByLabel, GivesByTwoLabels, IsAllBelow, AddsImages}
 use Rattle.uxml.proofs.Same.{tree_ind, same_refl, same_sym, same_trans, same_parts}
-use Rattle.uxml.proofs.Total.{at_in, nonzero-in, in_node, normal_in, total_ext, total_add, total_union, total_scale, total_sum, at_linear, at_steady, at_only, keep_add, keep_sum, below_sum}
+use Rattle.uxml.proofs.Total.{at_in, nonzero_in, in_node, normal_in, total_ext, total_add, total_union, total_scale, total_sum, at_linear, at_steady, at_only, keep_add, keep_sum, below_sum}
 use Rattle.uxml.proofs.Order.{find_in, same_from_equal, equal_from_same}
 use Rattle.uxml.proofs.Image.{keep_image, at_image}
 use Rattle.uxml.proofs.Known.{each_at, each_append}
@@ -40,7 +40,7 @@ module _ {K : Semiring} (K✓ : Lawful K) where
   )
 
   pub lists_its_trees : (f : F K) → Normal K f → ListsItsTrees K f
-  lists_its_trees f n = record { listed = λ t a i. (at_in K✓ i n, nonzero-in K✓ i n); present = λ t z. find_in K✓ t n refl z }
+  lists_its_trees f n = record { listed = λ t a i. (at_in K✓ i n, nonzero_in K✓ i n); present = λ t z. find_in K✓ t n refl z }
 
   pub keep_single : MakesNormal K (single K)
   keep_single t n = keep_add K✓ K.one n nil

@@ -15,7 +15,7 @@ use Rattle.uxml.specs.Evaluation.{evaluate}
 use Rattle.uxml.specs.Stores.{Limits, well_sized, State, as_document, new_state, meet, storing, fits}
 use Rattle.uxml.specs.Uses.{Call, load, run, carry, clear, Done, within, entering, scope_of, item_of, outcome, outcomes, state_after}
 use Rattle.uxml.specs.Equality.{Each, no_more, and_each, Same}
-use Rattle.uxml.specs.Laws.{Distinct, Meets-as-a-set, NormalState, Leaves, refused, leaves, UsesLeave}
+use Rattle.uxml.specs.Laws.{Distinct, MeetsAsASet, NormalState, Leaves, refused, leaves, UsesLeave}
 use Rattle.uxml.proofs.Lawful.{by_test}
 use Rattle.uxml.proofs.Same.{same_refl, same_trans}
 use Rattle.uxml.proofs.Image.{keep_image, keep_image_tree}
@@ -88,7 +88,7 @@ module _ {K : Semiring} (K✓ : Lawful K) where
   meet_distinct [] s d = d
   meet_distinct (t ∷ ts) s d = by_test (known K t s) (λ e. rw e (meet_distinct ts s d)) (λ e. rw e (meet_distinct ts (t ∷ s) (e, d)))
 
-  pub meets_as_a_set : (ts s : List (T K)) → Meets-as-a-set K (meet K) ts s
+  pub meets_as_a_set : (ts s : List (T K)) → MeetsAsASet K (meet K) ts s
   meets_as_a_set ts s = record { members = meet_members ts s; once = meet_distinct ts s }
 
   known_last : (t : T K) (ts : List (T K)) → known K t (ts ++ (t ∷ [])) ≡ true

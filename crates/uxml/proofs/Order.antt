@@ -7,7 +7,7 @@ use Rattle.uxml.specs.Normal.{Normal, NormalTree, nil, more}
 use Rattle.uxml.specs.Equality.{Same}
 use Rattle.uxml.proofs.Lawful.{by_test, sound, nonzero, plus_left, cond_same}
 use Rattle.uxml.proofs.Same.{Like, by_same, same_refl, same_sym, same_trans, same_left, same_right, same_not, same_parts, same_from}
-use Rattle.uxml.proofs.Total.{at_same, at_no, at_here, at_in, nonzero-in, absent, more_at}
+use Rattle.uxml.proofs.Total.{at_same, at_no, at_here, at_in, nonzero_in, absent, more_at}
 
 module _ {K : Semiring} (K✓ : Lawful K) where
   -- g without the tree t
@@ -60,8 +60,8 @@ module _ {K : Semiring} (K✓ : Lawful K) where
 module _ {K : Semiring} (K✓ : Lawful K) where
   pub same_from_equal : (l : ℕ) {f g : F K} → Normal K f → Normal K g → Equal K f g → Same K (tree l f) (tree l g)
   same_from_equal l m n e = same_from K✓ refl
-      (λ t a i. find_in K✓ t n (sym (e t) ∙ at_in K✓ i m) (nonzero-in K✓ i m))
-      (λ u a i. let x = find_in K✓ u m (e u ∙ at_in K✓ i n) (nonzero-in K✓ i n) in (x.0, x.1, same_sym K✓ x.2))
+      (λ t a i. find_in K✓ t n (sym (e t) ∙ at_in K✓ i m) (nonzero_in K✓ i m))
+      (λ u a i. let x = find_in K✓ u m (e u ∙ at_in K✓ i n) (nonzero_in K✓ i n) in (x.0, x.1, same_sym K✓ x.2))
 
   pub equal_from_same : {l k : ℕ} {f g : F K} → Normal K f → Normal K g → Same K (tree l f) (tree k g) → Equal K f g
   equal_from_same {f} {g} m n e u = let x = same_parts K✓ e in by_test (K.same (at K f u) K.zero)

@@ -78,20 +78,20 @@ module _ {K : Semiring} (K✓ : Lawful K) where
   absent t empty e = refl
   absent t (entry u a f) e = let p = or_parts (same_tree K t u) (known K t (trees f)) e in at_no u a f t (same_not K✓ t u p.0) ∙ absent t f p.1
 
-  pub nonzero-in : {t : T K} {a : K.carrier} {f : F K} → In t a f → Normal K f → a ≢ K.zero
-  nonzero-in here (more x y m n) = x
-  nonzero-in (there i) (more x y m n) = nonzero-in i n
+  pub nonzero_in : {t : T K} {a : K.carrier} {f : F K} → In t a f → Normal K f → a ≢ K.zero
+  nonzero_in here (more x y m n) = x
+  nonzero_in (there i) (more x y m n) = nonzero_in i n
 
   -- a listed annotation is the tree's
   pub at_in : {t : T K} {a : K.carrier} {f : F K} → In t a f → Normal K f → at K f t ≡ a
   at_in {t} {a} (here {f}) (more x y m n) = at_here a f (same_refl K✓ t) (absent t f y)
   at_in {t} (there {u} {b} {f} i) (more x y m n) = by_same K u t
-      (λ d. absurd (nonzero-in i n (sym (at_in i n) ∙ (at_same f (same_sym K✓ d) ∙ absent u f y)))) (λ d. at_no u b f t d ∙ at_in i n)
+      (λ d. absurd (nonzero_in i n (sym (at_in i n) ∙ (at_same f (same_sym K✓ d) ∙ absent u f y)))) (λ d. at_no u b f t d ∙ at_in i n)
 
   -- in a normal forest a tree with annotation zero is not listed
   unlisted : (t : T K) {f : F K} → Normal K f → at K f t ≡ K.zero → known K t (trees f) ≡ false
   unlisted t {f} n z = by_test (known K t (trees f))
-      (λ e. let x = known_find t (trees f) e in let y = trees_in f x.1 in absurd (nonzero-in y.1 n (sym (at_in y.1 n) ∙ (at_same f (same_sym K✓ x.2) ∙ z))))
+      (λ e. let x = known_find t (trees f) e in let y = trees_in f x.1 in absurd (nonzero_in y.1 n (sym (at_in y.1 n) ∙ (at_same f (same_sym K✓ x.2) ∙ z))))
       (λ e. e)
 
   pub more_at : {t : T K} {a : K.carrier} {f : F K} → a ≢ K.zero → at K f t ≡ K.zero → NormalTree K t → Normal K f → Normal K (entry t a f)

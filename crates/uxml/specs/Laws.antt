@@ -8,7 +8,7 @@ use Rattle.formats.specs.Queries.{Query}
 use Rattle.formats.specs.Reading.{Reading}
 use Rattle.uxml.specs.Forests.{TreeOf, ForestOf, total, same_tree, at, below_tree, known}
 use Rattle.uxml.specs.Normal.{Normal, NormalTree}
-use Rattle.uxml.specs.Images.{image, image_tree}
+use Rattle.uxml.specs.Images.{image_tree}
 use Rattle.uxml.specs.Evaluation.{Scope, Answer, evaluate, binding, a_tree, a_forest, the_tree, the_forest, the_item}
 use Rattle.uxml.specs.Stores.{Limits, State, as_document}
 use Rattle.uxml.specs.Uses.{Call, Done, use_outcomes}
@@ -132,7 +132,7 @@ Distinct K [] = Unit {0}
 Distinct K (t ∷ ts) = (known K t ts ≡ false) × Distinct K ts
 
 -- Meeting trees adds them to a stock as to a set: a tree is in it afterwards if it was before or is among those met, and none is there twice.
-pub record Meets-as-a-set (K : Semiring) (meeting : List (TreeOf K) → List (TreeOf K) → List (TreeOf K)) (ts s : List (TreeOf K)) : Type 0 where
+pub record MeetsAsASet (K : Semiring) (meeting : List (TreeOf K) → List (TreeOf K) → List (TreeOf K)) (ts s : List (TreeOf K)) : Type 0 where
   pub members : (t : TreeOf K) → known K t (meeting ts s) ≡ (known K t ts || known K t s)
   pub once : Distinct K s → Distinct K (meeting ts s)
 

@@ -2,14 +2,14 @@
 ghost use Rattle.std.specs.Prelude.{List};
 ghost use Rattle.uxml.specs.Forests.{TreeOf};
 ghost use Rattle.uxml.specs.Stores.{meet};
-ghost use Rattle.uxml.specs.Laws.{Meets-as-a-set, NormalState, UsesLeave};
+ghost use Rattle.uxml.specs.Laws.{MeetsAsASet, NormalState, UsesLeave};
 ghost use Rattle.uxml.specs.Labels.{CheckedCall, LabelledState, UsesLeaveWith};
 
 use kinds::semiring::Kind;
 
 /// A tree is in the stock after trees were met exactly when it was before or is among them, and no tree is there twice.
 pub fn stocks_are_sets<K: Kind>()
-    ensures { (ts s : List (TreeOf K.Kind.ring)) → Meets-as-a-set K.Kind.ring (meet K.Kind.ring) ts s }
+    ensures { (ts s : List (TreeOf K.Kind.ring)) → MeetsAsASet K.Kind.ring (meet K.Kind.ring) ts s }
 {}
 
 /// After each call of a use: 16 normal documents, all in the stock, which has normal trees, none of them twice.
