@@ -1,4 +1,4 @@
-use Rattle.std.proofs.Common.{◌-◌, length, take, drop, refl, ap, subst, arith}
+use Rattle.std.proofs.Common.{◌-◌, length, take, drop, refl, subst, arith, rules}
 use native.Mathlib.Nat.{sub-zero}
 use Rattle.std.proofs.lemmas.List.{take_rest}
 use Rattle.text.specs.Lines.{inside, Stops}
@@ -20,4 +20,4 @@ returns c =
     let after = take (length whole - g) (drop g whole) in
     let skip = c.blanks-gap.ensures in
     let read = c.insides-n.ensures in
-    word_next _ _ _ g n after (take_rest whole g) skip.within skip.all read.within (omega arith) read.all read.stops (ap (λ k. take k after) (sub-zero n)) (take_rest after n) c.onward-place.ensures c.onward-self.ensures
+    word_next _ _ _ g n after (take_rest whole g) skip.within skip.all read.within (omega arith) read.all read.stops (search (rules, sub-zero)) (take_rest after n) c.onward-place.ensures c.onward-self.ensures
