@@ -53,11 +53,11 @@ fn run(rt: &HostRuntime) -> anyhow::Result<()> {
         println!(rt; "the built-in sample:\n\n{SAMPLE}\nplayed:\n")?;
         return show(rt, heap, "sample", SAMPLE.as_bytes());
     };
-    if words.next().is_some() || word == "-h" || word == "--help" {
+    if words.next().is_some() || word.as_str() == "-h" || word.as_str() == "--help" {
         rt.eprintln(USAGE)?;
         return Err(anyhow!("expected one word at most: a file, or -"));
     }
-    if word == "-" {
+    if word.as_str() == "-" {
         let text = read_input(rt)?;
         return show(rt, heap, "standard input", &text);
     }
