@@ -6,6 +6,8 @@ pub mod Clearances
 pub mod Conditions
 pub mod Pairs
 pub mod Codes
+-- Proofs that the five kinds are lawful; they stand here since an implementation of a kind cites them.
+pub mod FlagLaws
 pub mod NumberLaws
 pub mod ClearanceLaws
 pub mod ConditionLaws

@@ -2,9 +2,7 @@
 ghost use Rattle.kinds.specs.Clearances.{rank};
 ghost use Rattle.kinds.specs.Upto.{held, ranks};
 ghost use Rattle.kinds.specs.NumberLaws.{ranks_lawful};
-ghost use Rattle.std.proofs.Common.{ap, arith};
-ghost use Rattle.std.proofs.Math.Path.{fst_path};
-ghost use Rattle.kinds.specs.ClearanceLaws.{rank_le};
+ghost use Rattle.kinds.specs.ClearanceLaws.{one_rank};
 
 use crate::codes::Coded;
 use crate::semiring::Kind;
@@ -57,7 +55,7 @@ impl Kind for Clearance {
 impl Coded for Clearance {
     ghost number = { rank };
 
-    ghost one_code = { record { same_code = λ x y e. omega (arith, fst_path e, rank_le x, rank_le y); same_meaning = λ x y e. ap (held 4) e } };
+    ghost one_code = { one_rank };
 
     fn read(code: u64) -> Option<Clearance> {
         match code {

@@ -1,6 +1,7 @@
 // Presence: no or yes.
 ghost use Rattle.kinds.specs.Flags.{flags, flag_code};
-ghost use Rattle.std.proofs.Common.{rules};
+ghost use Rattle.kinds.specs.FlagLaws.{flags_lawful, one_flag_code};
+ghost use Rattle.std.proofs.Common.{ap};
 
 use crate::codes::Coded;
 use crate::semiring::Kind;
@@ -15,7 +16,7 @@ impl Kind for Flag {
 
     ghost means = { λ f. f.yes };
 
-    ghost lawful = { Prim.search rules };
+    ghost lawful = { flags_lawful };
 
     fn zero() -> Flag {
         Flag { yes: false }
@@ -45,7 +46,7 @@ impl Kind for Flag {
 impl Coded for Flag {
     ghost number = { λ f. flag_code f.yes };
 
-    ghost one_code = { Prim.search rules };
+    ghost one_code = { record { same_code = λ x y e. ap flag_code e; same_meaning = λ x y e. one_flag_code x.yes y.yes e } };
 
     fn read(code: u64) -> Option<Flag> {
         match code {
