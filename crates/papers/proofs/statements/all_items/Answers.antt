@@ -45,5 +45,5 @@ pub returns : goal.returns
 returns c =
     let old = c.loop-word.invariant in
     let new = c.in_ok-annotations.ensures in
-    let from-none = new.1 ∙ ap (λ l. l ++ new.0) c.new-items.ensures.items in
-    all_items_lem (point c.begin.new.reader, c.in_ok-begin.ensures, new.2) old.2 c.in_default.ensures (old.1 ∙ ap (λ l. l ++ old.0) from-none)
+    let from_none = new.1 ∙ ap (λ l. l ++ new.0) c.new-items.ensures.items in
+    all_items_lem (point c.begin.new.reader, c.in_ok-begin.ensures, new.2) old.2 c.in_default.ensures (old.1 ∙ ap (λ l. l ++ old.0) from_none)
