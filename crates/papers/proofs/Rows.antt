@@ -7,6 +7,7 @@ use Rattle.text.specs.Lines.{Point, word_bytes, NoWord, NoMore, WordNext, WordBe
 use Rattle.papers.specs.Papers.{Row, WholeRow, ItemsLine, ItemsLines, AllItems, none, more}
 use Rattle.text.proofs.Cuts.{below_shorter}
 use Rattle.text.proofs.Single.{clash}
+use Rattle.std.proofs.lemmas.Bool.{not-false, not-true}
 use Rattle.std.proofs.lemmas.Bool.Decides.{Decides-eqb}
 
 pub word_shorter : {p q : Point} {w : Word} → WordNext p w q → length q.left < length p.left
@@ -45,18 +46,10 @@ all_items_lem {p} {r = r} {vs = vs} {ws = ws} first others ended is = (
   ended,
 )
 
-was_true : (b : Bool) → not b ≡ false → b ≡ true
-was_true true h = refl
-was_true false h = sym h
-
-was_false : (b : Bool) → not b ≡ true → b ≡ false
-was_false true h = sym h
-was_false false h = refl
-
 -- what `!=` says of two texts where it is false
 pub same_from_ne : (xs ys : List ℕ) (r : Bool) → r ≡ not (pointwise eqb xs ys) → r ≡ false → xs ≡ ys
-same_from_ne xs ys r e f = (slice_eq-Decides Decides-eqb xs ys _ refl).0 (was_true _ (sym e ∙ f))
+same_from_ne xs ys r e f = (slice_eq-Decides Decides-eqb xs ys _ refl).0 (not-false _ (sym e ∙ f))
 
 -- and where it is true
 pub differs : (xs ys : List ℕ) (r : Bool) → r ≡ not (pointwise eqb xs ys) → r ≡ true → xs ≡ ys → ⊥
-differs xs ys r e f same = clash _ ((slice_eq-Decides Decides-eqb xs ys _ refl).1 same) (was_false _ (sym e ∙ f))
+differs xs ys r e f same = clash _ ((slice_eq-Decides Decides-eqb xs ys _ refl).1 same) (not-true _ (sym e ∙ f))
