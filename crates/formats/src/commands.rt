@@ -1,9 +1,9 @@
 // The commands of a query, and the sorts of its variables.
-ghost use Rattle.std.specs.Prelude.{◌≡◌};
+ghost use Rattle.std.specs.Prelude.{◌≡◌, Some, None, MatchResult};
 ghost use Rattle.formats.specs.QueryBytes.{command_of, operand_width, is_binder};
 
 /// The commands, in the order of their bytes, 20 to 2E.
-#[derive(Clone, Copy)]
+#[derive(Clone, Copy, Debug, PartialEq, Eq)]
 pub enum Command {
     Nothing,
     Document,
@@ -23,33 +23,41 @@ pub enum Command {
 }
 
 /// Whether a variable stands for a tree or for a forest.
-#[derive(Clone, Copy)]
+#[derive(Clone, Copy, Debug, PartialEq, Eq)]
 pub enum Sort {
     OfTree,
     OfForest,
 }
 
+/// A byte that stands for no command.
+#[derive(Clone, Copy, Debug, PartialEq, Eq)]
+pub struct UnknownCommand(pub u8);
+
 /// The command that a byte stands for.
-pub fn read_command(byte: u8) -> Option<Command>
-    ensures { result ≡ command_of byte }
-{
-    match byte {
-        0x20 => Some(Command::Nothing),
-        0x21 => Some(Command::Document),
-        0x22 => Some(Command::Single),
-        0x23 => Some(Command::Held),
-        0x24 => Some(Command::Union),
-        0x25 => Some(Command::Scale),
-        0x26 => Some(Command::Make),
-        0x27 => Some(Command::Named),
-        0x28 => Some(Command::Child),
-        0x29 => Some(Command::Below),
-        0x2A => Some(Command::Only),
-        0x2B => Some(Command::For),
-        0x2C => Some(Command::Let),
-        0x2D => Some(Command::IfName),
-        0x2E => Some(Command::Alike),
-        _ => None,
+impl TryFrom<u8> for Command {
+    type Error = UnknownCommand;
+
+    ghost try_from_gives = { λ b r. MatchResult r (λ c. command_of b ≡ Some c) (λ e. (command_of b ≡ None) × (e.0 ≡ b)) };
+
+    fn try_from(byte: u8) -> Result<Command, UnknownCommand> {
+        match byte {
+            0x20 => Ok(Command::Nothing),
+            0x21 => Ok(Command::Document),
+            0x22 => Ok(Command::Single),
+            0x23 => Ok(Command::Held),
+            0x24 => Ok(Command::Union),
+            0x25 => Ok(Command::Scale),
+            0x26 => Ok(Command::Make),
+            0x27 => Ok(Command::Named),
+            0x28 => Ok(Command::Child),
+            0x29 => Ok(Command::Below),
+            0x2A => Ok(Command::Only),
+            0x2B => Ok(Command::For),
+            0x2C => Ok(Command::Let),
+            0x2D => Ok(Command::IfName),
+            0x2E => Ok(Command::Alike),
+            _ => Err(UnknownCommand(byte)),
+        }
     }
 }
 
@@ -75,9 +83,6 @@ impl Command {
     pub fn binds(self) -> bool
         ensures { result ≡ is_binder self }
     {
-        match self {
-            Command::For | Command::Let => true,
-            _ => false,
-        }
+        matches!(self, Command::For | Command::Let)
     }
 }

@@ -1,4 +1,5 @@
-// Laws of the formats: each function does nothing, and its contract is one law.
+// Laws of the formats: each function does nothing, and its contract is one law. The laws of documents and of queries are not one law
+// over a trait: a document is read with a list of items and a query without, and their ranges are different facts.
 ghost use Rattle.formats.specs.Laws.{DocumentsReadBack, DocumentsExact, QueriesReadBack, QueriesExact, ListsScalings};
 ghost use Rattle.formats.specs.Queries.{Query};
 ghost use Rattle.formats.specs.Items.{scalings};

@@ -3,10 +3,10 @@ ghost use Rattle.std.specs.Prelude.{◌≡◌};
 ghost use Rattle.formats.specs.Refusals.{refusal_number};
 
 /// The grounds of refusal, in the order of their numbers.
-#[derive(Clone, Copy)]
+#[derive(Clone, Copy, Debug, PartialEq, Eq)]
 pub enum Refusal {
     /// 1: the tables of a store concerned have lengths out of range.
-    IllSized,
+    IllSized = 1,
     /// 2: a slot above 15.
     NoSuchSlot,
     /// 3: working memory of under 33 annotations for each tree of the receiving table.
@@ -36,7 +36,7 @@ pub enum Refusal {
 }
 
 /// A refusal with its place: the offset of the command concerned, or as the refusal's description says.
-#[derive(Clone, Copy)]
+#[derive(Clone, Copy, Debug, PartialEq, Eq)]
 pub struct Fault {
     pub refusal: Refusal,
     pub place: usize,
@@ -47,21 +47,6 @@ impl Refusal {
     pub fn number(self) -> u8
         ensures { result ≡ refusal_number self }
     {
-        match self {
-            Refusal::IllSized => 1,
-            Refusal::NoSuchSlot => 2,
-            Refusal::WorkTooShort => 3,
-            Refusal::TooLong => 4,
-            Refusal::CutShort => 5,
-            Refusal::OutOfPlace => 6,
-            Refusal::LabelZero => 7,
-            Refusal::NoSuchItem => 8,
-            Refusal::TooDeep => 9,
-            Refusal::NotBound => 10,
-            Refusal::BytesLeft => 11,
-            Refusal::LimitPassed => 12,
-            Refusal::NoRoom => 13,
-            Refusal::ResultTooLong => 14,
-        }
+        self as u8
     }
 }

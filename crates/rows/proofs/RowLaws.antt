@@ -1,57 +1,28 @@
 -- Rows place by place: one more place done, and folds over a row.
-use Rattle.std.proofs.Common.{◌≡◌, ℕ, ◌+◌, ◌<◌, ◌≤◌, Bool, cond, ◌≢◌, List, [], ◌∷◌, map, length, get_or, drop, set, sym, refl, ap, ◌∙◌, ap₂, arith, get_or-set_other, get_or-set_same, below_more}
-use Rattle.std.proofs.lemmas.List.{drop_more, drop_all}
+use Rattle.std.proofs.Common.{◌≡◌, ℕ, ◌+◌, true, false, not, filter, ◌++◌, ◌<◌, ◌≤◌, Bool, cond, ◌≢◌, List, [], ◌∷◌, map, length, get_or, drop, set, sym, refl, ap, ◌∙◌, ap₂, arith, get_or-set_other, get_or-set_same, below_more}
+use Rattle.std.proofs.lemmas.List.{map_push}
 use Rattle.kinds.specs.Semiring.{Semiring}
 use Rattle.rows.specs.Rows.{Rewritten, folded, nonzero}
 
-module _ {X A : Type 0} (means : X → A) (φ : ℕ → X → A) (old : List X) where
-  -- nothing is done yet
-  pub rewritten_none : Rewritten means 0 φ old old
-  rewritten_none = record { placed = λ i h. absurd (omega arith); rest = λ i h d. refl }
+module _ {X A : Type 0} (means : X → A) (op : A → A → A) (e : A) (assoc : (a b c : A) → op (op a b) c ≡ op a (op b c)) (comm : (a b : A) → op a b ≡ op b a) where
+  joined_push : (bs : List A) (a : A) → op (folded op e bs) a ≡ folded op e (bs ++ (a ∷ []))
+  joined_push [] a = comm e a
+  joined_push (b ∷ bs) a = assoc b (folded op e bs) a ∙ ap (op b) (joined_push bs a)
 
-  -- one more place is done
-  pub rewritten_more : (new : List X) (n : ℕ) (v : X) → n < length new → Rewritten means n φ old new → ((d : X) → means v ≡ φ n d) → Rewritten means (n + 1) φ old (set new n v)
-  rewritten_more new n v h done here = record {
-    placed = below_more (λ i. (d : X) → means (get_or (set new n v) i d) ≡ φ i d) n
-        (λ i k d. let ne : i ≢ n = omega arith in rw get_or-set_other (done.placed i k d))
-        (λ d. rw get_or-set_same (here d));
-    rest = λ i k d. let ne : i ≢ n = omega arith in rw get_or-set_other (done.rest i (omega arith) d);
-  }
+  -- with one more element joined, a join of the first elements is again the join of the first elements
+  pub fold_push : (xs : List X) (x : X) (s t : A) → s ≡ folded op e (map means xs) → t ≡ op s (means x) → t ≡ folded op e (map means (xs ++ (x ∷ [])))
+  fold_push xs x s t h next = next ∙ ap (λ a. op a (means x)) h ∙ joined_push (map means xs) (means x) ∙ ap (folded op e) (sym (map_push means xs x))
 
--- the join of what is still to come from place i on
-abbrev pub still : {X A : Type 0} → (X → A) → (A → A → A) → A → ℕ → List X → A
-still means op e i xs = folded op e (map means (drop i xs))
+-- one element more is counted unless it is the same as zero
+counted : {X : Type 0} (same : Bool) (x : X) (xs : List X) (n : ℕ) → length xs ≡ n → length (cond (not same) (x ∷ xs) xs) ≡ cond same n (1 + n)
+counted true x xs n e = e
+counted false x xs n e = omega (arith, e)
 
-module _ {X A : Type 0} (means : X → A) (op : A → A → A) (e : A) where
-  -- at the start all is to come
-  pub fold_none : ((a b : A) → op a b ≡ op b a) → ((a : A) → op a e ≡ a) → (xs : List X) (s : A) → s ≡ e → op s (still means op e 0 xs) ≡ folded op e (map means xs)
-  fold_none comm unit xs s h = ap (λ u. op u (folded op e (map means xs))) h ∙ comm e (folded op e (map means xs)) ∙ unit (folded op e (map means xs))
-
-  -- with the next element joined, a join is as far from the whole as before
-  pub fold_more : ((a b c : A) → op (op a b) c ≡ op a (op b c)) → (xs : List X) (i : ℕ) (x : X) (s t : A) → i < length xs
-      → x ≡ get_or xs i x → t ≡ op s (means x) → op t (still means op e (i + 1) xs) ≡ op s (still means op e i xs)
-  fold_more assoc xs i x s t h at next =
-      ap (λ u. op u (still means op e (i + 1) xs)) next ∙ assoc s (means x) (still means op e (i + 1) xs)
-      ∙ ap (λ ys. op s (folded op e (map means ys))) (sym (drop_more xs i x h ∙ ap (λ y. y ∷ drop (i + 1) xs) (sym at)))
-
-  -- past the end nothing is to come
-  pub fold_all : ((a : A) → op a e ≡ a) → (xs : List X) (i : ℕ) (s : A) → length xs ≤ i → op s (still means op e i xs) ≡ s
-  fold_all unit xs i s h = ap (λ ys. op s (folded op e (map means ys))) (drop_all i xs h) ∙ unit s
-
-module _ {X : Type 0} (R : Semiring) (means : X → R.carrier) (xs : List X) where
-  -- how many are not zero from place i on
-  abbrev pub nonzero_from : ℕ → ℕ
-  nonzero_from i = nonzero R (map means (drop i xs))
-
-  -- the next place counts unless its value z is the same as zero
-  pub nonzero_more : (i : ℕ) (x z : X) (b : Bool) → i < length xs → x ≡ get_or xs i x → means z ≡ R.zero → b ≡ R.same (means x) (means z)
-      → nonzero_from i ≡ cond b (nonzero_from (i + 1)) (1 + nonzero_from (i + 1))
-  nonzero_more i x z b h at e test =
-      ap (λ ys. nonzero R (map means ys)) (drop_more xs i x h ∙ ap (λ y. y ∷ drop (i + 1) xs) (sym at))
-      ∙ ap (λ t. cond t (nonzero_from (i + 1)) (1 + nonzero_from (i + 1))) (sym (test ∙ ap (R.same (means x)) e))
-
-  pub nonzero_all : (i : ℕ) → length xs ≤ i → nonzero_from i ≡ 0
-  nonzero_all i h = ap (λ ys. nonzero R (map means ys)) (drop_all i xs h)
+-- the elements that are not the same as zero are the nonzero ones
+pub nonzero_counted : {X : Type 0} (R : Semiring) (means : X → R.carrier) (xs : List X)
+    → length (filter (λ x. not (R.same (means x) R.zero)) xs) ≡ nonzero R (map means xs)
+nonzero_counted R means [] = refl
+nonzero_counted R means (x ∷ xs) = counted (R.same (means x) R.zero) x _ _ (nonzero_counted R means xs)
 
 -- What keeps an operation and its unit keeps every fold of a row: f joins and then maps, image maps and then joins.
 pub keeps_fold : {K L A B : Type 0} (from : K → A) (to : L → B) (image : K → L) (f : A → B) (op : A → A → A) (unit : A) (op' : B → B → B) (unit' : B)

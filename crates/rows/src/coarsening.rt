@@ -33,11 +33,7 @@ pub fn map_row<K: Kind, L: Kind, M: Map<K, L>>(
 ) -> Result<Vec<L>, AllocError>
     ensures { IfOk result (λ v. v.items ≡ map (M.Map.image m.now) row.now) }
 {
-    let mut images = Vec::new(heap);
-    for x in row {
-        images.push(m.map(*x))?;
-    }
-    Ok(images)
+    row.iter().map(|x| m.map(*x)).collect(heap)
 }
 
 /// Maps a row, adds it up and multiplies it, before the map and after it. Unless memory is short, both orders agree.

@@ -1,4 +1,5 @@
-// Work on rows of annotations place by place, over lent slices, proved once for every kind.
+// Work on rows of annotations place by place, over lent slices, proved once for every kind. Two rows go by `enumerate` and `get`:
+// of what is written through a `zip` over `iter_mut` a proof learns nothing.
 ghost use Rattle.std.specs.Prelude.{◌≡◌, min, length, slice_index_or};
 ghost use Rattle.rows.specs.Rows.{Rewritten};
 
@@ -9,8 +10,10 @@ pub fn add_row<K: Kind>(target: &mut [K], source: &[K])
     ensures target { Rewritten K.Kind.means (min (length target.old) (length source.now)) (λ i d. K.Kind.ring.plus (K.Kind.means (slice_index_or target.old i d)) (K.Kind.means (slice_index_or source.now i d))) target.old target.new }
     ensures source { source.exit.now ≡ source.entry.now }
 {
-    for i in 0..target.len().min(source.len()) {
-        target[i] = target[i].plus(source[i]);
+    for (i, x) in target.iter_mut().enumerate() {
+        if let Some(y) = source.get(i) {
+            *x = x.plus(*y);
+        }
     }
 }
 
@@ -19,8 +22,10 @@ pub fn add_scaled_row<K: Kind>(target: &mut [K], source: &[K], by: K)
     ensures target { Rewritten K.Kind.means (min (length target.old) (length source.now)) (λ i d. K.Kind.ring.plus (K.Kind.means (slice_index_or target.old i d)) (K.Kind.ring.times (K.Kind.means by) (K.Kind.means (slice_index_or source.now i d)))) target.old target.new }
     ensures source { source.exit.now ≡ source.entry.now }
 {
-    for i in 0..target.len().min(source.len()) {
-        target[i] = target[i].plus(by.times(source[i]));
+    for (i, x) in target.iter_mut().enumerate() {
+        if let Some(y) = source.get(i) {
+            *x = x.plus(by.times(*y));
+        }
     }
 }
 

@@ -8,33 +8,19 @@ use kinds::semiring::Kind;
 pub fn count_nonzero<K: Kind>(row: &[K]) -> usize
     ensures { result ≡ nonzero K.Kind.ring (map K.Kind.means row.now) }
 {
-    let mut count = 0;
-    for x in row {
-        if !x.same(K::zero()) {
-            count += 1;
-        }
-    }
-    count
+    row.iter().filter(|x| !x.same(K::zero())).count()
 }
 
 /// The sum of a row.
 pub fn sum_row<K: Kind>(row: &[K]) -> K
     ensures { K.Kind.means result ≡ total K.Kind.ring (map K.Kind.means row.now) }
 {
-    let mut sum = K::zero();
-    for x in row {
-        sum = sum.plus(*x);
-    }
-    sum
+    row.iter().fold(K::zero(), |sum, x| sum.plus(*x))
 }
 
 /// The product of a row.
 pub fn multiply_row<K: Kind>(row: &[K]) -> K
     ensures { K.Kind.means result ≡ product K.Kind.ring (map K.Kind.means row.now) }
 {
-    let mut result = K::one();
-    for x in row {
-        result = result.times(*x);
-    }
-    result
+    row.iter().fold(K::one(), |product, x| product.times(*x))
 }
