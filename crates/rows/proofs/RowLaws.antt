@@ -1,8 +1,10 @@
 -- Rows place by place: one more place done, and folds over a row.
-use Rattle.std.proofs.Common.{◌≡◌, ℕ, ◌+◌, true, false, not, filter, ◌++◌, ◌<◌, ◌≤◌, Bool, cond, ◌≢◌, List, [], ◌∷◌, map, length, get_or, drop, set, sym, refl, ap, ◌∙◌, ap₂, arith, get_or-set_other, get_or-set_same, below_more}
+use Rattle.std.proofs.Common.{◌≡◌, ℕ, ◌+◌, true, false, not, filter, ◌++◌, Bool, cond, List, [], ◌∷◌, map, length, sym, refl, ap, ◌∙◌, ap₂, arith}
 use Rattle.std.proofs.lemmas.List.{map_push}
 use Rattle.kinds.specs.Semiring.{Semiring}
-use Rattle.rows.specs.Rows.{Rewritten, folded, nonzero}
+use Rattle.rows.specs.declared.coarsening.BothWays.{BothWays}
+use Rattle.rows.specs.Rows.{folded, nonzero}
+use Rattle.rows.specs.Coarsenings.{JoinsBothWays}
 
 module _ {X A : Type 0} (means : X → A) (op : A → A → A) (e : A) (assoc : (a b c : A) → op (op a b) c ≡ op a (op b c)) (comm : (a b : A) → op a b ≡ op b a) where
   joined_push : (bs : List A) (a : A) → op (folded op e bs) a ≡ folded op e (bs ++ (a ∷ []))
@@ -31,3 +33,20 @@ pub keeps_fold : {K L A B : Type 0} (from : K → A) (to : L → B) (image : K �
 keeps_fold from to image f op unit op' unit' agrees at_unit at_op [] = at_unit
 keeps_fold from to image f op unit op' unit' agrees at_unit at_op (x ∷ xs) =
     at_op (from x) (folded op unit (map from xs)) ∙ ap₂ op' (sym (agrees x)) (keeps_fold from to image f op unit op' unit' agrees at_unit at_op xs)
+
+-- So a join of a row, its image and the join of the images are what they should be.
+pub joins_both_ways : {K L A B : Type 0} (from : K → A) (to : L → B) (image : K → L) (f : A → B) (op : A → A → A) (unit : A) (op' : B → B → B) (unit' : B)
+    → ((x : K) → to (image x) ≡ f (from x)) → f unit ≡ unit' → ((a b : A) → f (op a b) ≡ op' (f a) (f b))
+    → (row : List K) (images : List L) (j : K) (o : L) (w : BothWays K L)
+    → images ≡ map image row → from j ≡ folded op unit (map from row) → to o ≡ folded op' unit' (map to images)
+    → w ≡ record { join = j; mapped = image j; of_images = o }
+    → JoinsBothWays from to image (folded op unit) (folded op' unit') row w
+joins_both_ways from to image f op unit op' unit' agrees at_unit at_op row images j o w mapped whole of_images e =
+    let joined = ap (λ v. from v.join) e ∙ whole in
+    let last = ap (λ v. to v.of_images) e ∙ of_images ∙ ap (λ xs. folded op' unit' (map to xs)) mapped in
+    record {
+      joined = joined;
+      mapped = ap (λ v. v.mapped) e ∙ ap (λ v. image v.join) (sym e);
+      of_images = last;
+      agree = ap (λ v. to v.mapped) e ∙ agrees j ∙ ap f whole ∙ keeps_fold from to image f op unit op' unit' agrees at_unit at_op row ∙ sym last;
+    }

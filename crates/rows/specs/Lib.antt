@@ -1,2 +1,3 @@
 -- Definitions on rows of annotations.
 pub mod Rows
+pub mod Coarsenings

@@ -1,26 +1,51 @@
 // A row of annotations mapped to a coarser kind, with its sum and its product before the map and after it.
 ghost use Rattle.std.specs.Prelude.{◌≡◌, true, map, IfOk};
 ghost use Rattle.rows.specs.Rows.{total, product};
+ghost use Rattle.rows.specs.Coarsenings.{JoinsBothWays};
 
 use crate::totals::{multiply_row, sum_row};
 use kinds::semiring::Kind;
 use maps::Map;
 use std::alloc::{AllocError, Global};
 
+/// A row joined by one operation, before a map and after it.
+#[derive(Clone, Copy, Debug)]
+pub struct BothWays<K, L> {
+    /// The join of the row.
+    pub join: K,
+    /// Its image: first joined, then mapped.
+    pub mapped: L,
+    /// The join of the images: first mapped, then joined.
+    pub of_images: L,
+}
+
+impl<K: Kind, L: Kind> BothWays<K, L> {
+    /// A join of a row and the join of its images, with the image of the first.
+    pub fn new<M: Map<K, L>>(m: &M, join: K, of_images: L) -> BothWays<K, L>
+        ensures { result ≡ record { join = join; mapped = M.Map.image m.now join; of_images = of_images } }
+    {
+        BothWays {
+            join,
+            mapped: m.map(join),
+            of_images,
+        }
+    }
+
+    /// Whether mapping before and after gave the same.
+    pub fn agree(self) -> bool
+        ensures { result ≡ L.Kind.ring.same (L.Kind.means self.mapped) (L.Kind.means self.of_images) }
+    {
+        self.mapped.same(self.of_images)
+    }
+}
+
 /// What `coarsen` found.
 #[derive(Drop)]
 pub struct Coarsening<K: Kind, L: Kind> {
     /// The image of each annotation, in order.
     pub images: Vec<L>,
-    /// The sum and the product of the row.
-    pub sum: K,
-    pub product: K,
-    /// Their images: first added up or multiplied, then mapped.
-    pub sum_mapped: L,
-    pub product_mapped: L,
-    /// The sum and the product of the images: first mapped, then added up or multiplied.
-    pub mapped_sum: L,
-    pub mapped_product: L,
+    pub sum: BothWays<K, L>,
+    pub product: BothWays<K, L>,
     /// Whether mapping before and after gave the same sum and the same product.
     pub agree: bool,
 }
@@ -43,29 +68,19 @@ pub fn coarsen<K: Kind, L: Kind, M: Map<K, L>>(
     row: &[K],
 ) -> Result<Coarsening<K, L>, AllocError>
     ensures images { IfOk result (λ c. c.images.items ≡ map (M.Map.image m.now) row.now) }
-    ensures sums { IfOk result (λ c. K.Kind.means c.sum ≡ total K.Kind.ring (map K.Kind.means row.now)) }
-    ensures products { IfOk result (λ c. K.Kind.means c.product ≡ product K.Kind.ring (map K.Kind.means row.now)) }
-    ensures after { IfOk result (λ c. (c.sum_mapped ≡ M.Map.image m.now c.sum) × (c.product_mapped ≡ M.Map.image m.now c.product)) }
-    ensures before { IfOk result (λ c. (L.Kind.means c.mapped_sum ≡ total L.Kind.ring (map L.Kind.means c.images.items)) × (L.Kind.means c.mapped_product ≡ product L.Kind.ring (map L.Kind.means c.images.items))) }
-    ensures agree { IfOk result (λ c. (L.Kind.means c.sum_mapped ≡ L.Kind.means c.mapped_sum) × (L.Kind.means c.product_mapped ≡ L.Kind.means c.mapped_product) × (c.agree ≡ true)) }
+    ensures sums { IfOk result (λ c. JoinsBothWays K.Kind.means L.Kind.means (M.Map.image m.now) (total K.Kind.ring) (total L.Kind.ring) row.now c.sum) }
+    ensures products { IfOk result (λ c. JoinsBothWays K.Kind.means L.Kind.means (M.Map.image m.now) (product K.Kind.ring) (product L.Kind.ring) row.now c.product) }
+    ensures agree { IfOk result (λ c. c.agree ≡ true) }
 {
     m.homomorphism();
     let images = map_row(heap, m, row)?;
-    let sum = sum_row(row);
-    let product = multiply_row(row);
-    let sum_mapped = m.map(sum);
-    let product_mapped = m.map(product);
-    let mapped_sum = sum_row(&images);
-    let mapped_product = multiply_row(&images);
-    let agree = sum_mapped.same(mapped_sum) & product_mapped.same(mapped_product);
+    let sum = BothWays::new(m, sum_row(row), sum_row(&images));
+    let product = BothWays::new(m, multiply_row(row), multiply_row(&images));
+    let agree = sum.agree() & product.agree();
     Ok(Coarsening {
         images,
         sum,
         product,
-        sum_mapped,
-        product_mapped,
-        mapped_sum,
-        mapped_product,
         agree,
     })
 }
