@@ -14,6 +14,7 @@ mod tests {
     use rows::coarsening::coarsen;
     use rows::places::{add_row, add_scaled_row, clear_row, scale_row};
     use rows::totals::{count_nonzero, multiply_row, sum_row};
+    use std::alloc::{AllocError, Global};
     use std::test::Fail;
 
     const NO: Flag = Flag { yes: false };
@@ -99,22 +100,13 @@ mod tests {
     }
 
     #[test]
-    fn count_codes(rt: HostRuntime) -> Result<(), Fail> {
+    fn count_codes(rt: HostRuntime) {
         assert!(rt; Count::read(0).is_some() & Count::read(1_000_000).is_some());
         assert!(rt; Count::read(1_000_001).is_none() & Count::read(1 << 32).is_none());
         assert!(rt; read_code::<Count>([0, 0, 0, 0, 0, 15, 66, 64]).is_some());
         assert!(rt; read_code::<Count>([0, 0, 0, 0, 0, 15, 66, 65]).is_none());
         assert!(rt; read_code::<Count>([1, 0, 0, 0, 0, 0, 0, 0]).is_none());
-        match read_code::<Count>([0, 0, 0, 0, 0, 0, 1, 2]) {
-            Some(c) => {
-                assert!(rt; c.same(count(258)));
-                Ok(())
-            },
-            None => {
-                assert!(rt; false);
-                Ok(())
-            },
-        }
+        assert!(rt; read_code([0, 0, 0, 0, 0, 0, 1, 2]).is_some_and(|c: Count| c.same(count(258))));
     }
 
     #[test]
@@ -198,11 +190,7 @@ mod tests {
         assert!(rt; !Present.map(count(0)).yes & Present.map(count(1)).yes);
         assert!(rt; Present.map(count(u32::MAX)).yes);
         assert!(rt; Cleared::new(0).is_none() & Cleared::new(5).is_none());
-        let Some(low) = Cleared::new(1) else {
-            assert!(rt; false);
-            return Ok(());
-        };
-        let Some(high) = Cleared::new(4) else {
+        let (Some(low), Some(high)) = (Cleared::new(1), Cleared::new(4)) else {
             assert!(rt; false);
             return Ok(());
         };
@@ -214,15 +202,8 @@ mod tests {
     #[test]
     fn assignments_at_their_ends(rt: HostRuntime) -> Result<(), Fail> {
         assert!(rt; Under::new(64).is_none() & Under::new(255).is_none());
-        let Some(low) = Under::new(0) else {
-            assert!(rt; false);
-            return Ok(());
-        };
-        let Some(one) = Under::new(1) else {
-            assert!(rt; false);
-            return Ok(());
-        };
-        let Some(high) = Under::new(63) else {
+        let (Some(low), Some(one), Some(high)) = (Under::new(0), Under::new(1), Under::new(63))
+        else {
             assert!(rt; false);
             return Ok(());
         };
@@ -242,54 +223,74 @@ mod tests {
         assert!(rt; way.map(p).yes);
     }
 
-    // Each row function, at values a and b of one kind.
-    macro_rules! try_rows {
-        ($rt:expr, $a:expr, $b:expr, $zero:expr) => {{
-            let mut row = [$a, $b, $zero];
-            add_row(&mut row, &[$b, $b]);
-            assert!($rt; row[0].same($a.plus($b)) & row[1].same($b.plus($b)) & row[2].same($zero));
-            add_scaled_row(&mut row, &[$a, $a, $a, $a], $b);
-            assert!($rt; row[0].same($a.plus($b).plus($b.times($a))) & row[2].same($b.times($a)));
-            scale_row(&mut row, $b);
-            assert!($rt; row[2].same($b.times($b.times($a))));
-            clear_row(&mut row);
-            assert!($rt; row[0].same($zero) & row[1].same($zero) & (count_nonzero(&row) == 0));
-            let two = [$a, $b];
-            assert!($rt; sum_row(&two).same($a.plus($b)) & multiply_row(&two).same($a.times($b)));
-        }};
+    // Whether each row function does what it should, at values a and b of one kind.
+    fn rows_work<K: Kind>(heap: Global, a: K, b: K, zero: K) -> Result<bool, AllocError> {
+        let mut row = Vec::new(heap);
+        row.push(a)?;
+        row.push(b)?;
+        let joined = sum_row(&row).same(a.plus(b)) & multiply_row(&row).same(a.times(b));
+        row.push(zero)?;
+        let mut bs = Vec::new(heap);
+        bs.push(b)?;
+        bs.push(b)?;
+        add_row(&mut row, &bs);
+        let added = row[0].same(a.plus(b)) & row[1].same(b.plus(b)) & row[2].same(zero);
+        let mut long = Vec::new(heap);
+        for _ in 0..4 {
+            long.push(a)?;
+        }
+        add_scaled_row(&mut row, &long, b);
+        let scaled = row[0].same(a.plus(b).plus(b.times(a))) & row[2].same(b.times(a));
+        scale_row(&mut row, b);
+        let multiplied = row[2].same(b.times(b.times(a)));
+        clear_row(&mut row);
+        let cleared = row[0].same(zero) & row[1].same(zero) & (count_nonzero(&row) == 0);
+        Ok(joined & added & scaled & multiplied & cleared)
     }
 
     #[test]
-    fn rows_of_flags(rt: HostRuntime) {
-        try_rows!(rt, YES, NO, NO);
+    fn rows_of_flags(rt: HostRuntime) -> Result<(), Fail> {
+        assert!(rt; rows_work(rt.alloc(), YES, NO, NO)?);
+        Ok(())
     }
 
     #[test]
-    fn rows_of_counts(rt: HostRuntime) {
+    fn rows_of_counts(rt: HostRuntime) -> Result<(), Fail> {
         assert!(rt; count_nonzero(&[count(0), count(5), count(0), count(u32::MAX)]) == 2);
-        try_rows!(rt, count(3), count(u32::MAX), count(0));
+        assert!(rt; rows_work(rt.alloc(), count(3), count(u32::MAX), count(0))?);
+        Ok(())
     }
 
     #[test]
-    fn rows_of_clearances(rt: HostRuntime) {
-        try_rows!(rt, Clearance::Top, Clearance::Confidential, Clearance::None);
+    fn rows_of_clearances(rt: HostRuntime) -> Result<(), Fail> {
+        assert!(rt;
+            rows_work(
+                rt.alloc(),
+                Clearance::Top,
+                Clearance::Confidential,
+                Clearance::None
+            )?
+        );
+        Ok(())
     }
 
     #[test]
-    fn rows_of_conditions(rt: HostRuntime) {
-        try_rows!(rt, condition(2), condition(12), condition(0));
+    fn rows_of_conditions(rt: HostRuntime) -> Result<(), Fail> {
+        assert!(rt; rows_work(rt.alloc(), condition(2), condition(12), condition(0))?);
+        Ok(())
     }
 
     #[test]
-    fn rows_of_pairs(rt: HostRuntime) {
-        try_rows!(rt, both(YES, 2), both(NO, 5), both(NO, 0));
+    fn rows_of_pairs(rt: HostRuntime) -> Result<(), Fail> {
+        assert!(rt; rows_work(rt.alloc(), both(YES, 2), both(NO, 5), both(NO, 0))?);
+        Ok(())
     }
 
     #[test]
     fn coarsened(rt: HostRuntime) -> Result<(), Fail> {
         let c = coarsen(rt.alloc(), &Present, &[count(0), count(2), count(u32::MAX)])?;
-        assert!(rt; c.agree & c.sum_mapped.yes & !c.product_mapped.yes);
-        assert!(rt; c.sum.same(count(1_000_000)) & c.product.same(count(0)));
+        assert!(rt; c.agree & c.sum.mapped.yes & !c.product.mapped.yes);
+        assert!(rt; c.sum.join.same(count(1_000_000)) & c.product.join.same(count(0)));
         assert!(rt; c.images.len() == 3);
         assert!(rt; !c.images[0].yes & c.images[1].yes & c.images[2].yes);
         Ok(())
