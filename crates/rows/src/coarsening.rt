@@ -22,7 +22,7 @@ pub struct BothWays<K, L> {
 impl<K: Kind, L: Kind> BothWays<K, L> {
     /// A join of a row and the join of its images, with the image of the first.
     pub fn new<M: Map<K, L>>(m: &M, join: K, of_images: L) -> BothWays<K, L>
-        ensures { result ≡ record { join = join; mapped = M.Map.image m.now join; of_images = of_images } }
+        ensures { result ≡ record { join = join; mapped = M.image m.now join; of_images = of_images } }
     {
         BothWays {
             join,
@@ -33,7 +33,7 @@ impl<K: Kind, L: Kind> BothWays<K, L> {
 
     /// Whether mapping before and after gave the same.
     pub fn agree(self) -> bool
-        ensures { result ≡ L.Kind.ring.same (L.Kind.means self.mapped) (L.Kind.means self.of_images) }
+        ensures { result ≡ L.ring.same (L.means self.mapped) (L.means self.of_images) }
     {
         self.mapped.same(self.of_images)
     }
@@ -56,7 +56,7 @@ pub fn map_row<K: Kind, L: Kind, M: Map<K, L>>(
     m: &M,
     row: &[K],
 ) -> Result<Vec<L>, AllocError>
-    ensures { IfOk result (λ v. v.items ≡ map (M.Map.image m.now) row.now) }
+    ensures { IfOk result (λ v. v.items ≡ map (M.image m.now) row.now) }
 {
     row.iter().map(|x| m.map(*x)).collect(heap)
 }
@@ -67,9 +67,9 @@ pub fn coarsen<K: Kind, L: Kind, M: Map<K, L>>(
     m: &M,
     row: &[K],
 ) -> Result<Coarsening<K, L>, AllocError>
-    ensures images { IfOk result (λ c. c.images.items ≡ map (M.Map.image m.now) row.now) }
-    ensures sums { IfOk result (λ c. JoinsBothWays K.Kind.means L.Kind.means (M.Map.image m.now) (total K.Kind.ring) (total L.Kind.ring) row.now c.sum) }
-    ensures products { IfOk result (λ c. JoinsBothWays K.Kind.means L.Kind.means (M.Map.image m.now) (product K.Kind.ring) (product L.Kind.ring) row.now c.product) }
+    ensures images { IfOk result (λ c. c.images.items ≡ map (M.image m.now) row.now) }
+    ensures sums { IfOk result (λ c. JoinsBothWays K.means L.means (M.image m.now) (total K.ring) (total L.ring) row.now c.sum) }
+    ensures products { IfOk result (λ c. JoinsBothWays K.means L.means (M.image m.now) (product K.ring) (product L.ring) row.now c.product) }
     ensures agree { IfOk result (λ c. c.agree ≡ true) }
 {
     m.homomorphism();

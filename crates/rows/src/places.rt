@@ -7,7 +7,7 @@ use kinds::semiring::Kind;
 
 /// Adds each annotation of `source` to the one at its place in `target`, as far as the shorter row goes.
 pub fn add_row<K: Kind>(target: &mut [K], source: &[K])
-    ensures target { Rewritten K.Kind.means (min (length target.old) (length source.now)) (λ i d. K.Kind.ring.plus (K.Kind.means (slice_index_or target.old i d)) (K.Kind.means (slice_index_or source.now i d))) target.old target.new }
+    ensures target { Rewritten K.means (min (length target.old) (length source.now)) (λ i d. K.ring.plus (K.means (slice_index_or target.old i d)) (K.means (slice_index_or source.now i d))) target.old target.new }
     ensures source { source.exit.now ≡ source.entry.now }
 {
     for (i, x) in target.iter_mut().enumerate() {
@@ -19,7 +19,7 @@ pub fn add_row<K: Kind>(target: &mut [K], source: &[K])
 
 /// Adds `by` times each annotation of `source` to the one at its place in `target`, as far as the shorter row goes.
 pub fn add_scaled_row<K: Kind>(target: &mut [K], source: &[K], by: K)
-    ensures target { Rewritten K.Kind.means (min (length target.old) (length source.now)) (λ i d. K.Kind.ring.plus (K.Kind.means (slice_index_or target.old i d)) (K.Kind.ring.times (K.Kind.means by) (K.Kind.means (slice_index_or source.now i d)))) target.old target.new }
+    ensures target { Rewritten K.means (min (length target.old) (length source.now)) (λ i d. K.ring.plus (K.means (slice_index_or target.old i d)) (K.ring.times (K.means by) (K.means (slice_index_or source.now i d)))) target.old target.new }
     ensures source { source.exit.now ≡ source.entry.now }
 {
     for (i, x) in target.iter_mut().enumerate() {
@@ -31,7 +31,7 @@ pub fn add_scaled_row<K: Kind>(target: &mut [K], source: &[K], by: K)
 
 /// Multiplies each annotation of a row by `by`.
 pub fn scale_row<K: Kind>(target: &mut [K], by: K)
-    ensures { Rewritten K.Kind.means (length target.old) (λ i d. K.Kind.ring.times (K.Kind.means by) (K.Kind.means (slice_index_or target.old i d))) target.old target.new }
+    ensures { Rewritten K.means (length target.old) (λ i d. K.ring.times (K.means by) (K.means (slice_index_or target.old i d))) target.old target.new }
 {
     for x in target.iter_mut() {
         *x = by.times(*x);
@@ -40,7 +40,7 @@ pub fn scale_row<K: Kind>(target: &mut [K], by: K)
 
 /// Sets each annotation of a row to zero.
 pub fn clear_row<K: Kind>(target: &mut [K])
-    ensures { Rewritten K.Kind.means (length target.old) (λ _ _. K.Kind.ring.zero) target.old target.new }
+    ensures { Rewritten K.means (length target.old) (λ _ _. K.ring.zero) target.old target.new }
 {
     for x in target.iter_mut() {
         *x = K::zero();

@@ -6,21 +6,21 @@ use kinds::semiring::Kind;
 
 /// How many annotations of a row are not zero.
 pub fn count_nonzero<K: Kind>(row: &[K]) -> usize
-    ensures { result ≡ nonzero K.Kind.ring (map K.Kind.means row.now) }
+    ensures { result ≡ nonzero K.ring (map K.means row.now) }
 {
     row.iter().filter(|x| !x.same(K::zero())).count()
 }
 
 /// The sum of a row.
 pub fn sum_row<K: Kind>(row: &[K]) -> K
-    ensures { K.Kind.means result ≡ total K.Kind.ring (map K.Kind.means row.now) }
+    ensures { K.means result ≡ total K.ring (map K.means row.now) }
 {
     row.iter().fold(K::zero(), |sum, x| sum.plus(*x))
 }
 
 /// The product of a row.
 pub fn multiply_row<K: Kind>(row: &[K]) -> K
-    ensures { K.Kind.means result ≡ product K.Kind.ring (map K.Kind.means row.now) }
+    ensures { K.means result ≡ product K.ring (map K.means row.now) }
 {
     row.iter().fold(K::one(), |product, x| product.times(*x))
 }

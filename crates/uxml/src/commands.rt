@@ -7,80 +7,80 @@ use kinds::semiring::Kind;
 
 /// NONE: the empty forest.
 pub fn none_gives_nothing<K: Kind>()
-    ensures { GivesNothing K.Kind.ring none }
+    ensures { GivesNothing K.ring none }
 {}
 
 /// DOC: the document in a slot.
 pub fn doc_gives_a_document<K: Kind>()
-    ensures { GivesADocument K.Kind.ring document }
+    ensures { GivesADocument K.ring document }
 {}
 
 /// TREE: a tree variable, at annotation one.
 pub fn tree_gives_a_tree<K: Kind>()
-    ensures { GivesATree K.Kind.ring tree_of }
+    ensures { GivesATree K.ring tree_of }
 {}
 
 /// HELD: a forest variable.
 pub fn held_gives_a_forest<K: Kind>()
-    ensures { GivesAForest K.Kind.ring held }
+    ensures { GivesAForest K.ring held }
 {}
 
 /// UNION: each tree has the plus of both.
 pub fn union_gives_the_sum<K: Kind>()
-    ensures { GivesTheSum K.Kind.ring both }
+    ensures { GivesTheSum K.ring both }
 {}
 
 /// SCALE: each annotation times an item.
 pub fn scale_gives_the_multiple<K: Kind>()
-    ensures { GivesTheMultiple K.Kind.ring scaled }
+    ensures { GivesTheMultiple K.ring scaled }
 {}
 
 /// MAKE: one tree with a label and the children given, at annotation one.
 pub fn make_gives_a_new_tree<K: Kind>()
-    ensures { GivesANewTree K.Kind.ring make }
+    ensures { GivesANewTree K.ring make }
 {}
 
 /// NAMED: the same with the label of a tree variable.
 pub fn named_gives_a_named_tree<K: Kind>()
-    ensures { GivesANamedTree K.Kind.ring named }
+    ensures { GivesANamedTree K.ring named }
 {}
 
 /// CHILD: the sum, over the trees t, of t's annotation times t's child forest.
 pub fn child_gives_the_children<K: Kind>()
-    ensures { GivesTheChildren K.Kind.ring child }
+    ensures { GivesTheChildren K.ring child }
 {}
 
 /// BELOW: the sum, over the trees t, of t's annotation times all that is below t.
 pub fn below_gives_all_below<K: Kind>()
-    ensures { GivesAllBelow K.Kind.ring below }
+    ensures { GivesAllBelow K.ring below }
 {}
 
 /// ONLY: the trees with a label.
 pub fn only_gives_those_labelled<K: Kind>()
-    ensures { GivesThoseLabelled K.Kind.ring only_of }
+    ensures { GivesThoseLabelled K.ring only_of }
 {}
 
 /// FOR: the sum, over the trees t, of t's annotation times the body with the new tree variable t.
 pub fn for_gives_the_sum_over_trees<K: Kind>()
-    ensures { GivesForEach K.Kind.ring for_each }
+    ensures { GivesForEach K.ring for_each }
 {}
 
 /// LET: the body with the new forest variable.
 pub fn let_gives_the_body<K: Kind>()
-    ensures { GivesWithTheForest K.Kind.ring let_be }
+    ensures { GivesWithTheForest K.ring let_be }
 {}
 
 /// IFNAME: the first query if a variable has the label, else the second.
 pub fn ifname_chooses_by_a_label<K: Kind>()
-    ensures { GivesByLabel K.Kind.ring if_name }
+    ensures { GivesByLabel K.ring if_name }
 {}
 
 /// ALIKE: the first query if two variables have equal labels, else the second.
 pub fn alike_chooses_by_two_labels<K: Kind>()
-    ensures { GivesByTwoLabels K.Kind.ring if_alike }
+    ensures { GivesByTwoLabels K.ring if_alike }
 {}
 
 /// All that is below a tree: itself at one, plus the sum over its children c of c's annotation times all that is below c.
 pub fn below_is_the_tree_and_all_below_its_children<K: Kind>()
-    ensures { IsAllBelow K.Kind.ring (below_tree K.Kind.ring) }
+    ensures { IsAllBelow K.ring (below_tree K.ring) }
 {}

@@ -10,15 +10,15 @@ use kinds::semiring::Kind;
 
 /// Equality of trees is an equivalence.
 pub fn equality_of_trees<K: Kind>()
-    ensures { Equivalence (Same K.Kind.ring) }
+    ensures { Equivalence (Same K.ring) }
 {}
 
 /// Two normal trees are the same exactly when they have equal labels and equal child forests.
 pub fn same_trees_are_equal<K: Kind>()
-    ensures { (l m : ℕ) (f g : ForestOf K.Kind.ring) → Normal K.Kind.ring f → Normal K.Kind.ring g → Decides (same_tree K.Kind.ring (tree l f) (tree m g)) ((l ≡ m) × Equal K.Kind.ring f g) }
+    ensures { (l m : ℕ) (f g : ForestOf K.ring) → Normal K.ring f → Normal K.ring g → Decides (same_tree K.ring (tree l f) (tree m g)) ((l ≡ m) × Equal K.ring f g) }
 {}
 
 /// In equal scopes a query has equal answers: equal forests, the same steps, the same set of trees built.
 pub fn equal_scopes_have_equal_answers<K: Kind>()
-    ensures { RelatesEqualScopes K.Kind.ring (EqualAnswers K.Kind.ring) }
+    ensures { RelatesEqualScopes K.ring (EqualAnswers K.ring) }
 {}

@@ -20,5 +20,5 @@ pub fn examples_hold()
 
 /// A new tree times the item zero is the empty forest, in three steps, in every lawful kind.
 pub fn zero_item_gives_nothing<K: Kind>()
-    ensures { ZeroItemGivesNothing K.Kind.ring 3 }
+    ensures { ZeroItemGivesNothing K.ring 3 }
 {}
