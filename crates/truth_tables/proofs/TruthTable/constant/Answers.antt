@@ -3,7 +3,7 @@ use Rattle.truth_tables.specs.Monotone.{Monotone, always, never}
 use Rattle.truth_tables.specs.Tables.{function}
 use Rattle.truth_tables.proofs.MonotoneLaws.{by_value}
 use Rattle.truth_tables.proofs.Closing.{by_table}
-use Rattle.truth_tables.proofs.constant.Goals as goal
+use Rattle.truth_tables.proofs.TruthTable.constant.Goals as goal
 
 pub returns-then-value : goal.returns-then-value
 unfolding function
