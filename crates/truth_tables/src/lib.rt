@@ -31,12 +31,12 @@ impl TruthTable {
         ensures closes { Closes self.bits result.bits }
     {
         let x = self.bits;
-        let x = x | ((x << 1) & 0xAAAA_AAAA_AAAA_AAAA);
-        let x = x | ((x << 2) & 0xCCCC_CCCC_CCCC_CCCC);
-        let x = x | ((x << 4) & 0xF0F0_F0F0_F0F0_F0F0);
-        let x = x | ((x << 8) & 0xFF00_FF00_FF00_FF00);
-        let x = x | ((x << 16) & 0xFFFF_0000_FFFF_0000);
-        let x = x | ((x << 32) & 0xFFFF_FFFF_0000_0000);
+        let x = x | ((x << 1) & VARIABLES[0]);
+        let x = x | ((x << 2) & VARIABLES[1]);
+        let x = x | ((x << 4) & VARIABLES[2]);
+        let x = x | ((x << 8) & VARIABLES[3]);
+        let x = x | ((x << 16) & VARIABLES[4]);
+        let x = x | ((x << 32) & VARIABLES[5]);
         TruthTable { bits: x }
     }
 
