@@ -6,6 +6,7 @@ pub mod Clearances
 pub mod Conditions
 pub mod Pairs
 pub mod Codes
+pub mod Wording
 -- Proofs that the five kinds are lawful; they stand here since an implementation of a kind cites them.
 pub mod FlagLaws
 pub mod NumberLaws

@@ -7,11 +7,15 @@ use Rattle.std.proofs.Math.Bridge.{le_prop}
 use Rattle.std.proofs.Math.Nat.{min-eq_left, zero-min, min-le_left, max-le}
 use native.Mathlib.Omega.{arith, min_cases}
 use Rattle.kinds.specs.Semiring.{Lawful}
-use Rattle.kinds.specs.Upto.{Upto, ranks, counts, same_number}
+use Rattle.kinds.specs.Upto.{Upto, held, ranks, counts, same_number}
 use Rattle.std.proofs.lemmas.Bool.Decides.{Decides-eqb, Decides-like}
 
 pub by_number : {top : ℕ} {a b : Upto top} → a.0 ≡ b.0 → a ≡ b
 by_number = Σ_prop_path (λ n. le_prop)
+
+-- numbers that are one when held at the top stand for one count
+pub held_same : (top m n : ℕ) → min m top ≡ min n top → held top m ≡ held top n
+held_same top m n e = by_number e
 
 pub numbers_exact : {top : ℕ} (a b : Upto top) → Decides (same_number a b) (a ≡ b)
 numbers_exact a b = Decides-like (same_number a b) by_number fst_path (Decides-eqb a.0 b.0)

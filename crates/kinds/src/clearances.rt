@@ -1,19 +1,37 @@
 // Who may see: from none, whom nobody can be, by top, secret and confidential to public.
+ghost use Rattle.std.specs.Prelude.{◌≡◌, Some};
 ghost use Rattle.kinds.specs.Clearances.{rank};
 ghost use Rattle.kinds.specs.Upto.{held, ranks};
 ghost use Rattle.kinds.specs.NumberLaws.{ranks_lawful};
 ghost use Rattle.kinds.specs.ClearanceLaws.{one_rank};
+ghost use Rattle.kinds.specs.Wording.{clearance_word};
 
 use crate::codes::Coded;
 use crate::semiring::Kind;
+use std::fmt;
 
-#[derive(Clone, Copy, Debug)]
+#[derive(Clone, Copy, Debug, PartialEq, Eq, PartialOrd, Ord)]
 pub enum Clearance {
     None,
     Top,
     Secret,
     Confidential,
     Public,
+}
+
+impl Clearance {
+    /// Its name, in small letters.
+    pub fn name(self) -> &'static str
+        ensures { result.now ≡ clearance_word self }
+    {
+        match self {
+            Self::None => "none",
+            Self::Top => "top",
+            Self::Secret => "secret",
+            Self::Confidential => "confidential",
+            Self::Public => "public",
+        }
+    }
 }
 
 impl Kind for Clearance {
@@ -32,23 +50,15 @@ impl Kind for Clearance {
     }
 
     fn plus(self, other: Clearance) -> Clearance {
-        if (self as u8) < (other as u8) {
-            other
-        } else {
-            self
-        }
+        self.max(other)
     }
 
     fn times(self, other: Clearance) -> Clearance {
-        if (other as u8) < (self as u8) {
-            other
-        } else {
-            self
-        }
+        self.min(other)
     }
 
     fn same(self, other: Clearance) -> bool {
-        self as u8 == other as u8
+        self == other
     }
 }
 
@@ -70,5 +80,13 @@ impl Coded for Clearance {
 
     fn code(self) -> u64 {
         self as u64
+    }
+}
+
+impl fmt::Display for Clearance {
+    ghost output = { λ c. Some (clearance_word c) };
+
+    fn fmt<W: fmt::Write>(&self, f: &mut fmt::Formatter<W>) -> fmt::Result {
+        write!(f, "{}", self.name())
     }
 }

@@ -4,7 +4,8 @@ ghost use Rattle.kinds.specs.Codes.{spelled, Reads, OneCode};
 
 use crate::semiring::Kind;
 
-/// A kind whose annotations have codes.
+/// A kind whose annotations have codes. It stands in place of `TryFrom<u64>` and `Into<u64>`, which have no place for the law that
+/// ties the two, `one_code`.
 pub trait Coded: Kind {
     // The code of the annotation that a value stands for.
     ghost number: { Self → ℕ };
@@ -18,12 +19,12 @@ pub trait Coded: Kind {
         ensures { result ≡ number self };
 
     // Each annotation has one code, and no two have the same.
-    ghost one_code: { OneCode number Self.Kind.means };
+    ghost one_code: { OneCode number Self.means };
 }
 
 /// The annotation whose code these eight bytes spell, the most significant first, or none where there is no such annotation.
 pub fn read_code<K: Coded>(bytes: [u8; 8]) -> Option<K>
-    ensures { Reads K.Coded.number (spelled 8 bytes) result }
+    ensures { Reads K.number (spelled 8 bytes) result }
 {
     K::read(u64::from_be_bytes(bytes))
 }

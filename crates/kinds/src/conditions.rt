@@ -1,4 +1,4 @@
-// When: a monotone Boolean function of six variables x0 to x5, held as 64 bits. Bit i, counted from the lowest, is its
+// When: a monotone Boolean function of six variables x0 to x5, held as its truth table. Bit i, counted from the lowest, is its
 // value where variable xj has bit j of i.
 ghost use Rattle.std.specs.Prelude.{◌≡◌, ◌≤◌, MatchOption};
 ghost use Rattle.std.proofs.Common.{ap};
@@ -12,10 +12,7 @@ use crate::codes::Coded;
 use crate::semiring::Kind;
 
 /// Bits that are not closed upward stand for the condition with the fewest ones that has all of theirs.
-#[derive(Clone, Copy, Debug)]
-pub struct Condition {
-    pub bits: u64,
-}
+pub use truth_tables::TruthTable as Condition;
 
 impl Kind for Condition {
     ghost ring = { conditions 6 };
@@ -25,31 +22,23 @@ impl Kind for Condition {
     ghost lawful = { conditions_lawful 6 };
 
     fn zero() -> Condition {
-        Condition {
-            bits: truth_tables::constant(false),
-        }
+        Condition::constant(false)
     }
 
     fn one() -> Condition {
-        Condition {
-            bits: truth_tables::constant(true),
-        }
+        Condition::constant(true)
     }
 
     fn plus(self, other: Condition) -> Condition {
-        Condition {
-            bits: truth_tables::either(self.bits, other.bits),
-        }
+        self.either(other)
     }
 
     fn times(self, other: Condition) -> Condition {
-        Condition {
-            bits: truth_tables::both(self.bits, other.bits),
-        }
+        self.both(other)
     }
 
     fn same(self, other: Condition) -> bool {
-        truth_tables::alike(self.bits, other.bits)
+        self.alike(other)
     }
 }
 
@@ -62,15 +51,12 @@ impl Coded for Condition {
         ensures reads { Reads (λ (c : Condition). code (function c.bits)) number result }
         ensures cases { MatchOption result (Closed number → ⊥) (λ v. Closed number × (v.bits ≡ number)) }
     {
-        if truth_tables::is_closed(number) {
-            Some(Condition { bits: number })
-        } else {
-            None
-        }
+        let table = Condition { bits: number };
+        if table.is_closed() { Some(table) } else { None }
     }
 
     fn code(self) -> u64 {
-        truth_tables::closed(self.bits)
+        self.closed().bits
     }
 }
 
@@ -78,8 +64,5 @@ impl Coded for Condition {
 pub fn variable(j: usize) -> Option<Condition>
     ensures { MatchOption result (6 ≤ j) (λ c. Variable j c.bits) }
 {
-    match truth_tables::variable(j) {
-        Some(bits) => Some(Condition { bits }),
-        None => None,
-    }
+    Condition::variable(j)
 }

@@ -1,5 +1,5 @@
 // How often: 0 to 1,000,000, where a larger number is held at 1,000,000.
-ghost use Rattle.std.specs.Prelude.{min};
+ghost use Rattle.std.specs.Prelude.{◌≡◌, min, Some, decimal};
 ghost use Rattle.kinds.specs.Upto.{held, counts};
 ghost use Rattle.std.proofs.Common.{lit≤};
 ghost use Rattle.kinds.specs.NumberLaws.{counts_lawful, by_number};
@@ -7,14 +7,24 @@ ghost use Rattle.std.proofs.Math.Path.{fst_path};
 
 use crate::codes::Coded;
 use crate::semiring::Kind;
+use std::fmt;
 
 /// The largest count.
 pub const MOST: u32 = 1_000_000;
 
-/// A number above the largest count stands for the largest count.
+/// A number above the largest count stands for the largest count, so counts are compared by `same`, and no comparison is derived.
 #[derive(Clone, Copy, Debug)]
 pub struct Count {
     pub times: u32,
+}
+
+impl Count {
+    /// The number that it stands for.
+    pub fn held(self) -> u32
+        ensures { result ≡ min self.times 1000000 }
+    {
+        self.times.min(MOST)
+    }
 }
 
 impl Kind for Count {
@@ -32,21 +42,22 @@ impl Kind for Count {
         Count { times: 1 }
     }
 
+    #[tactic(auto, using(crate::specs::NumberLaws::held_same))]
     fn plus(self, other: Count) -> Count {
         Count {
-            times: (self.times.min(MOST) + other.times.min(MOST)).min(MOST),
+            times: (self.held() + other.held()).min(MOST),
         }
     }
 
+    #[tactic(auto, using(crate::specs::NumberLaws::held_same))]
     fn times(self, other: Count) -> Count {
-        let product = self.times.min(MOST) as u64 * other.times.min(MOST) as u64;
         Count {
-            times: product.min(MOST as u64) as u32,
+            times: self.held().saturating_mul(other.held()).min(MOST),
         }
     }
 
     fn same(self, other: Count) -> bool {
-        self.times.min(MOST) == other.times.min(MOST)
+        self.held() == other.held()
     }
 }
 
@@ -56,14 +67,21 @@ impl Coded for Count {
     ghost one_code = { record { same_code = λ x y e. fst_path e; same_meaning = λ x y e. by_number e } };
 
     fn read(code: u64) -> Option<Count> {
-        if code <= MOST as u64 {
-            Some(Count { times: code as u32 })
-        } else {
-            None
+        match u32::try_from(code) {
+            Ok(times) if times <= MOST => Some(Count { times }),
+            _ => None,
         }
     }
 
     fn code(self) -> u64 {
-        self.times.min(MOST) as u64
+        u64::from(self.held())
+    }
+}
+
+impl fmt::Display for Count {
+    ghost output = { λ c. Some (decimal (min c.times 1000000)) };
+
+    fn fmt<W: fmt::Write>(&self, f: &mut fmt::Formatter<W>) -> fmt::Result {
+        write!(f, "{}", self.held())
     }
 }

@@ -1,12 +1,15 @@
 // Presence: no or yes.
+ghost use Rattle.std.specs.Prelude.{Some};
 ghost use Rattle.kinds.specs.Flags.{flags, flag_code};
 ghost use Rattle.kinds.specs.FlagLaws.{flags_lawful, one_flag_code};
+ghost use Rattle.kinds.specs.Wording.{flag_word};
 ghost use Rattle.std.proofs.Common.{ap};
 
 use crate::codes::Coded;
 use crate::semiring::Kind;
+use std::fmt;
 
-#[derive(Clone, Copy, Debug)]
+#[derive(Clone, Copy, Debug, PartialEq, Eq)]
 pub struct Flag {
     pub yes: bool,
 }
@@ -39,7 +42,7 @@ impl Kind for Flag {
     }
 
     fn same(self, other: Flag) -> bool {
-        self.yes == other.yes
+        self == other
     }
 }
 
@@ -57,6 +60,14 @@ impl Coded for Flag {
     }
 
     fn code(self) -> u64 {
-        if self.yes { 1 } else { 0 }
+        u64::from(self.yes)
+    }
+}
+
+impl fmt::Display for Flag {
+    ghost output = { λ f. Some (flag_word f.yes) };
+
+    fn fmt<W: fmt::Write>(&self, f: &mut fmt::Formatter<W>) -> fmt::Result {
+        write!(f, "{}", if self.yes { "yes" } else { "no" })
     }
 }

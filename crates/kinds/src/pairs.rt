@@ -1,8 +1,10 @@
 // Two kinds side by side, half by half. The halves may be pairs themselves.
 ghost use Rattle.kinds.specs.Pairs.{pairs};
 ghost use Rattle.kinds.specs.PairLaws.{pairs_lawful};
+ghost use Rattle.kinds.specs.Wording.{pair_output};
 
 use crate::semiring::Kind;
+use std::fmt;
 
 #[derive(Clone, Copy, Debug)]
 pub struct Pair<L, R> {
@@ -11,11 +13,11 @@ pub struct Pair<L, R> {
 }
 
 impl<L: Kind, R: Kind> Kind for Pair<L, R> {
-    ghost ring = { pairs L.Kind.ring R.Kind.ring };
+    ghost ring = { pairs L.ring R.ring };
 
-    ghost means = { λ p. (L.Kind.means p.left, R.Kind.means p.right) };
+    ghost means = { λ p. (L.means p.left, R.means p.right) };
 
-    ghost lawful = { pairs_lawful L.Kind.lawful R.Kind.lawful };
+    ghost lawful = { pairs_lawful L.lawful R.lawful };
 
     fn zero() -> Pair<L, R> {
         Pair {
@@ -47,5 +49,14 @@ impl<L: Kind, R: Kind> Kind for Pair<L, R> {
 
     fn same(self, other: Pair<L, R>) -> bool {
         self.left.same(other.left) & self.right.same(other.right)
+    }
+}
+
+/// In brackets, as `(yes, 3)`.
+impl<L: fmt::Display, R: fmt::Display> fmt::Display for Pair<L, R> {
+    ghost output = { λ p. pair_output (L.output p.left) (R.output p.right) };
+
+    fn fmt<W: fmt::Write>(&self, f: &mut fmt::Formatter<W>) -> fmt::Result {
+        write!(f, "({}, {})", self.left, self.right)
     }
 }

@@ -32,5 +32,5 @@ pub trait Kind: Copy {
 
 /// Every kind is lawful.
 pub fn lawful<K: Kind>()
-    ensures { Lawful K.Kind.ring }
+    ensures { Lawful K.ring }
 {}

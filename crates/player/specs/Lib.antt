@@ -1,3 +1,2 @@
 -- Definitions for playing papers.
-pub mod Wording
 pub mod Items

@@ -1,28 +1,21 @@
 -- The bits of a number, one by one; the numbers of assignments; truth tables as numbers.
-use Rattle.std.proofs.Common.{◌≡◌, ℕ, zero, suc, ◌+◌, ◌-◌, ◌*◌, ◌/◌, ◌%◌, ◌^◌, ◌<◌, ◌≤◌, Bool, true, false, cond, ◌&&◌, ◌||◌, eqb, sym, refl, ap, ◌∙◌, ap₂, ⊎_elim, add-zero, mul-le-mul_right, mod-lt, add-mul, add_comm, one-mul, pow-suc, div-add-mod', zero-add, zero-mul, mul-one, mul-add, div-one, add-one, one-add, arith, pow-add, shr-shr, shr_lt}
-use native.Mathlib.Nat.{mod-one, div-eq_of_lt}
-use Rattle.std.proofs.lemmas.Bool.{cases_lt}
-use lib.Arith.{lt-one}
-use lib.Bits.{bit_and, bit_or, or_shr, or_mod, and_shr, and_mod}
-use lib.Pow.{field, shl-shr, mod-mod-pow, mod-pow-add}
-use lib.Pow.{low as low_part, high as high_part}
+use Rattle.std.proofs.Common.{◌≡◌, ℕ, zero, suc, ◌+◌, ◌-◌, ◌*◌, ◌/◌, ◌%◌, ◌^◌, ◌<◌, ◌≤◌, min, max, Bool, true, false, cond, ◌&&◌, ◌||◌, eqb, sym, refl, ap, ◌∙◌, ap₂, add-zero, mul-le-mul_right, add-mul, add_comm, one-mul, pow-suc, pow_pos, div-add-mod', zero-add, zero-mul, mul-one, mul-add, one-add, arith, pow-add}
+use native.Mathlib.Nat.{mod-one}
+use Rattle.std.proofs.Math.Nat.{add-sub_cancel_left}
+use lib.Bits.{bit_and, bit_or}
+use lib.Pow.{mod-pow-add}
+use Rattle.std.specs.Int.{bit_at}
 use Rattle.std.proofs.lemmas.Bool.Decides.{nat_tests}
+use Rattle.std.proofs.lemmas.Nat.Bits.{bit_at_or, bit_at_and, bit_at-lt, bit_at_cat_low, bit_at_cat_high, same_from_bits_below}
 use Rattle.truth_tables.specs.Monotone.{Assignment}
 use Rattle.truth_tables.specs.Tables.{bit, index, assignment, packed}
 
-digit_or : (p q : ℕ) → p < 2 → q < 2 → eqb (bit_or p q) 1 ≡ (eqb p 1 || eqb q 1)
-digit_or zero q hp hq = refl
-digit_or (suc zero) zero hp hq = refl
-digit_or (suc zero) (suc zero) hp hq = refl
-digit_or (suc zero) (suc (suc q)) hp hq = absurd (omega arith)
-digit_or (suc (suc p)) q hp hq = absurd (omega arith)
+-- a digit below 2, as a test
+digit_or : (p q : ℕ) → p < 2 → q < 2 → eqb (max p q) 1 ≡ (eqb p 1 || eqb q 1)
+digit_or p q hp hq = grind (arith, nat_tests)
 
-digit_and : (p q : ℕ) → p < 2 → q < 2 → eqb (bit_and p q) 1 ≡ (eqb p 1 && eqb q 1)
-digit_and zero q hp hq = refl
-digit_and (suc zero) zero hp hq = refl
-digit_and (suc zero) (suc zero) hp hq = refl
-digit_and (suc zero) (suc (suc q)) hp hq = absurd (omega arith)
-digit_and (suc (suc p)) q hp hq = absurd (omega arith)
+digit_and : (p q : ℕ) → p < 2 → q < 2 → eqb (min p q) 1 ≡ (eqb p 1 && eqb q 1)
+digit_and p q hp hq = grind (arith, nat_tests)
 
 digit_same : (p q : ℕ) → p < 2 → q < 2 → eqb p 1 ≡ eqb q 1 → p ≡ q
 digit_same p q hp hq e = grind (arith, nat_tests)
@@ -32,52 +25,34 @@ digit_times zero m h = sym (zero-mul m)
 digit_times (suc zero) m h = sym (one-mul m)
 digit_times (suc (suc d)) m h = absurd (omega arith)
 
-low : (n : ℕ) → n % 2 < 2
-low n = mod-lt n (omega arith)
-
 pub bit_of_or : (x y i : ℕ) → bit (bit_or x y) i ≡ (bit x i || bit y i)
-bit_of_or x y i =
-    ap (λ n. eqb (n % 2) 1) (or_shr x y i) ∙ ap (λ n. eqb n 1) (or_mod (x / 2 ^ i) (y / 2 ^ i) 1)
-    ∙ digit_or (x / 2 ^ i % 2) (y / 2 ^ i % 2) (low (x / 2 ^ i)) (low (y / 2 ^ i))
+bit_of_or x y i = ap (λ n. eqb n 1) (bit_at_or x y i) ∙ digit_or (bit_at x i) (bit_at y i) (bit_at-lt x i) (bit_at-lt y i)
 
 pub bit_of_and : (x y i : ℕ) → bit (bit_and x y) i ≡ (bit x i && bit y i)
-bit_of_and x y i =
-    ap (λ n. eqb (n % 2) 1) (and_shr x y i) ∙ ap (λ n. eqb n 1) (and_mod (x / 2 ^ i) (y / 2 ^ i) 1)
-    ∙ digit_and (x / 2 ^ i % 2) (y / 2 ^ i % 2) (low (x / 2 ^ i)) (low (y / 2 ^ i))
+bit_of_and x y i = ap (λ n. eqb n 1) (bit_at_and x y i) ∙ digit_and (bit_at x i) (bit_at y i) (bit_at-lt x i) (bit_at-lt y i)
 
--- bit s + d of a shift by s, at a width of ((e + 1) + d) + s
-shifted : (x s d e : ℕ) → (x * 2 ^ s) % 2 ^ (((e + 1) + d) + s) / 2 ^ (s + d) % 2 ≡ x / 2 ^ d % 2
-shifted x s d e =
-    ap (λ n. n % 2)
-    (sym (shr-shr ((x * 2 ^ s) % 2 ^ (((e + 1) + d) + s)) s d)
-    ∙ ap (λ n. n / 2 ^ d) (field (x * 2 ^ s) ((e + 1) + d) s ∙ ap (λ n. n % 2 ^ ((e + 1) + d)) (shl-shr x s))
-    ∙ field x (e + 1) d)
-    ∙ mod-mod-pow (x / 2 ^ d) e 1
+-- the bits of a number in two parts: hi above bit m, lo below it
+pub bit_low : (hi lo m i : ℕ) → i < m → bit (hi * 2 ^ m + lo) i ≡ bit lo i
+bit_low hi lo m i h = ap (λ n. eqb n 1) (bit_at_cat_low hi m lo i h)
+
+pub bit_high : (hi lo m i : ℕ) → lo < 2 ^ m → bit (hi * 2 ^ m + lo) (m + i) ≡ bit hi i
+bit_high hi lo m i h = ap (λ n. eqb n 1) (bit_at_cat_high hi m lo (m + i) h (omega arith)) ∙ ap (bit hi) (add-sub_cancel_left m i)
 
 pub bit_shl : (x s i : ℕ) → s ≤ i → i < 64 → bit ((x * 2 ^ s) % 2 ^ 64) i ≡ bit x (i - s)
 bit_shl x s i h k =
-    let w : ((63 - i + 1) + (i - s)) + s ≡ 64 = omega arith in
-    let j : s + (i - s) ≡ i = omega arith in
-    ap (λ n. eqb n 1) (ap₂ (λ m n. (x * 2 ^ s) % 2 ^ m / 2 ^ n % 2) (sym w) (sym j) ∙ shifted x s (i - s) (63 - i))
+    let m = x * 2 ^ s in
+    sym (bit_low (m / 2 ^ 64) (m % 2 ^ 64) 64 i k) ∙ ap (λ n. bit n i) (div-add-mod' m (2 ^ 64) ∙ sym (add-zero m))
+    ∙ ap (λ n. eqb n 1) (bit_at_cat_high x s 0 i (pow_pos s) h)
 
 -- two numbers of n bits with the same bits are one
 pub by_bits : (n x y : ℕ) → x < 2 ^ n → y < 2 ^ n → ((i : ℕ) → i < n → bit x i ≡ bit y i) → x ≡ y
-by_bits zero x y hx hy same = lt-one hx ∙ sym (lt-one hy)
-by_bits (suc n) x y hx hy same =
-    let low_same : x % 2 ≡ y % 2 = digit_same (x % 2) (y % 2) (low x) (low y) (rw (div-one, div-one) at (same 0 (omega arith))) in
-    let high_same : x / 2 ≡ y / 2 = by_bits n (x / 2) (y / 2) (half x hx) (half y hy) (λ i h. next x i ∙ same (1 + i) (omega arith) ∙ sym (next y i)) in
-    sym (div-add-mod' x 2) ∙ ap₂ (λ q r. q * 2 + r) high_same low_same ∙ div-add-mod' y 2
-  where
-    half : (z : ℕ) → z < 2 ^ suc n → z / 2 < 2 ^ n
-    half z h = shr_lt n 1 (rw add-one h)
-
-    next : (z i : ℕ) → bit (z / 2) i ≡ bit z (1 + i)
-    next z i = ap (λ m. eqb (m % 2) 1) (shr-shr z 1 i)
+by_bits n x y hx hy same =
+    same_from_bits_below n x y hx hy (λ i h. digit_same (bit_at x i) (bit_at y i) (bit_at-lt x i) (bit_at-lt y i) (same i h))
 
 pub index_assignment : (n i : ℕ) → index n (assignment n i) ≡ i % 2 ^ n
 index_assignment zero i = sym (mod-one i)
 index_assignment (suc n) i =
-    ap₂ ◌+◌ (index_assignment n i) (digit_times (i / 2 ^ n % 2) (2 ^ n) (low (i / 2 ^ n)))
+    ap₂ ◌+◌ (index_assignment n i) (digit_times (i / 2 ^ n % 2) (2 ^ n) (bit_at-lt i n))
     ∙ add_comm (i % 2 ^ n) (i / 2 ^ n % 2 * 2 ^ n) ∙ sym (mod-pow-add i 1 n) ∙ ap (λ m. i % 2 ^ m) (one-add n)
 
 pub index_lt : (n : ℕ) (a : Assignment n) → index n a < 2 ^ n
@@ -85,22 +60,9 @@ index_lt zero a = omega arith
 index_lt (suc n) (a, true) = rw pow-suc (omega (arith, index_lt n a))
 index_lt (suc n) (a, false) = rw pow-suc (omega (arith, index_lt n a))
 
--- the bits of a number in two parts: hi above bit m, lo below it
-pub bit_low : (hi lo m i : ℕ) → lo < 2 ^ m → i < m → bit (hi * 2 ^ m + lo) i ≡ bit lo i
-bit_low hi lo m i h k =
-    let w : ((m - (i + 1) + 1) + i) ≡ m = omega arith in
-    sym (ap (λ n. eqb n 1) (kept (hi * 2 ^ m + lo) (m - (i + 1)))) ∙ ap (λ n. eqb ((hi * 2 ^ m + lo) % 2 ^ n / 2 ^ i % 2) 1) w ∙ ap (λ n. bit n i) (low_part hi m h)
-  where
-    kept : (n e : ℕ) → n % 2 ^ ((e + 1) + i) / 2 ^ i % 2 ≡ n / 2 ^ i % 2
-    kept n e = ap (λ p. p % 2) (field n (e + 1) i) ∙ mod-mod-pow (n / 2 ^ i) e 1
-
-pub bit_high : (hi lo m i : ℕ) → lo < 2 ^ m → bit (hi * 2 ^ m + lo) (m + i) ≡ bit hi i
-bit_high hi lo m i h =
-    ap (λ n. eqb (n % 2) 1) (sym (shr-shr (hi * 2 ^ m + lo) m i) ∙ ap (λ n. n / 2 ^ i) (high_part hi m h))
-
 -- the bits of an assignment's number are its variables
 pub index_low : (n : ℕ) (a : Assignment n) (p : Bool) (j : ℕ) → j < n → bit (index (suc n) (a, p)) j ≡ bit (index n a) j
-index_low n a true j h = ap (λ m. bit m j) (add_comm (index n a) (2 ^ n) ∙ ap (λ m. m + index n a) (sym (one-mul (2 ^ n)))) ∙ bit_low 1 (index n a) n j (index_lt n a) h
+index_low n a true j h = ap (λ m. bit m j) (add_comm (index n a) (2 ^ n) ∙ ap (λ m. m + index n a) (sym (one-mul (2 ^ n)))) ∙ bit_low 1 (index n a) n j h
 index_low n a false j h = ap (λ m. bit m j) (add-zero (index n a))
 
 pub index_top : (n : ℕ) (a : Assignment n) (p : Bool) → bit (index (suc n) (a, p)) n ≡ p
@@ -145,12 +107,5 @@ bit_packed (suc n) f (a, true) =
     ∙ bit_packed n (λ b. f (b, true)) a
 bit_packed (suc n) f (a, false) =
     ap (bit (packed (suc n) f)) (add-zero (index n a))
-    ∙ bit_low (packed n (λ b. f (b, true))) (packed n (λ b. f (b, false))) (2 ^ n) (index n a) (packed_lt n (λ b. f (b, false))) (index_lt n a)
+    ∙ bit_low (packed n (λ b. f (b, true))) (packed n (λ b. f (b, false))) (2 ^ n) (index n a) (index_lt n a)
     ∙ bit_packed n (λ b. f (b, false)) a
-
--- a number with bit j set is at least 2 ^ j
-pub bit_le : (i j : ℕ) → i / 2 ^ j % 2 ≡ 1 → 2 ^ j ≤ i
-bit_le i j e = ⊎_elim (λ h. absurd (none (sym e ∙ ap (λ n. n % 2) (div-eq_of_lt h)))) (λ h. h) (cases_lt i (2 ^ j))
-  where
-    none : ◌≡◌ {A = ℕ} 1 0 → ⊥
-    none h = omega arith

@@ -1,13 +1,13 @@
 -- Closing 64 bits upward: the six steps of the program, the function that bits stand for, and the bits of a function.
-use Rattle.std.proofs.Common.{◌≡◌, ℕ, zero, suc, ◌-◌, ◌*◌, ◌%◌, ◌^◌, ◌<◌, Bool, true, false, cond, not, ◌&&◌, ◌||◌, eqb, ltb, leb, Decides, sym, refl, ap, ◌∙◌, ap₂, ⊎_elim, lt_of_le_of_lt, mod-eq_of_lt, arith}
+use Rattle.std.proofs.Common.{◌≡◌, ℕ, zero, suc, ◌-◌, ◌*◌, ◌%◌, ◌^◌, ◌<◌, Bool, true, false, cond, ◌&&◌, ◌||◌, eqb, ltb, leb, Decides, sym, refl, ap, ◌∙◌, ap₂, ⊎_elim, lt_of_le_of_lt, mod-eq_of_lt, arith}
 use mathlib.Core.Path.{fun_ext}
-use mathlib.Core.Bool.{So, false≢true}
-use Rattle.std.proofs.lemmas.Bool.Decides.{Decides-below_and, Decides-eqb, Decides-like}
-use Rattle.std.proofs.lemmas.Bool.{leb-true, ltb-true, and_parts, cases_eq}
+use mathlib.Core.Bool.{So}
+use Rattle.std.proofs.lemmas.Bool.Decides.{same_from_decides, Decides-eqb, Decides-like}
+use Rattle.std.proofs.lemmas.Bool.{agree_below, agree_below_at, leb-true, ltb-true, and_parts, cases_eq}
 use lib.Bits.{bit_and, bit_or, or_lt, and_le_r}
 use Rattle.truth_tables.specs.Monotone.{Assignment, Within, Monotone, raised, or_of, and_of}
 use Rattle.truth_tables.specs.Tables.{bit, index, assignment, function, packed, code, Closed, Closes}
-use Rattle.truth_tables.proofs.BoolLaws.{or_comm, or_false, and_true, and_false}
+use Rattle.std.proofs.Math.Bool.{or_comm, or-false, and-true, and-false}
 use Rattle.truth_tables.proofs.Bitwise.{bit_of_or, bit_of_and, bit_shl, by_bits, index_assignment, index_lt, index_low, index_top, assignment_index, packed_lt, bit_packed}
 use Rattle.truth_tables.proofs.MonotoneLaws.{by_value, raised_same, raised_or, raised_above, raised_least}
 
@@ -45,34 +45,22 @@ pub record Has (x : ℕ) (f : ℕ → Bool) : Type 0 where
   pub bits : (i : ℕ) → i < 64 → bit x i ≡ f i
 
 pick : (v p q r : Bool) → (So v → q ≡ r) → (p || (q && v)) ≡ cond v (r || p) p
-pick true p q r e = ap (λ t. p || t) (and_true q ∙ e refl) ∙ or_comm p r
-pick false p q r e = ap (λ t. p || t) (and_false q) ∙ or_false p
-
--- a test at every number below n, which the checker computes
-abbrev pub every : ℕ → (ℕ → Bool) → Bool
-every zero p = true
-every (suc n) p = p n && every n p
-
-pub every_at : (n : ℕ) (p : ℕ → Bool) → So (every n p) → (i : ℕ) → i < n → So (p i)
-every_at n p t = (Decides-below_and p (λ k. So (p k)) (λ m. every m p) (λ k. (λ e. e, λ e. e)) refl (λ _. refl) n).0 t
-
-implied : (a b : Bool) → So (not a || b) → So a → So b
-implied true b t h = t
-implied false b t h = absurd (false≢true h)
+pick true p q r e = ap (λ t. p || t) (and-true q ∙ e refl) ∙ or_comm p r
+pick false p q r e = ap (λ t. p || t) (and-false q) ∙ or-false p
 
 -- the variable's mask has 64 bits, and none below its shift
 abbrev pub above : ℕ → ℕ → Bool
-above v s = ltb v (2 ^ 64) && every 64 (λ i. not (bit v i) || leb s i)
+above v s = ltb v (2 ^ 64) && agree_below (λ i. bit v i && leb s i) (bit v) 64
 
 pub has_step : (v s x : ℕ) (f : ℕ → Bool) → So (above v s) → Has x f → Has (bit_or x (bit_and ((x * 2 ^ s) % 2 ^ 64) v)) (step v s f)
 has_step v s x f t h =
-    let mask = and_parts (ltb v (2 ^ 64)) (every 64 (λ i. not (bit v i) || leb s i)) t in
+    let mask = and_parts (ltb v (2 ^ 64)) (agree_below (λ i. bit v i && leb s i) (bit v) 64) t in
     let shifted = (x * 2 ^ s) % 2 ^ 64 in
     record {
       fits = or_lt 64 x (bit_and shifted v) h.fits (lt_of_le_of_lt (and_le_r shifted v) (ltb-true v (2 ^ 64) mask.0));
       bits = λ i k.
           bit_of_or x (bit_and shifted v) i ∙ ap (λ p. bit x i || p) (bit_of_and shifted v i)
-          ∙ pick (bit v i) (bit x i) (bit shifted i) (bit x (i - s)) (λ b. bit_shl x s i (leb-true s i (implied (bit v i) (leb s i) (every_at 64 (λ n. not (bit v n) || leb s n) mask.1 i k) b)) k)
+          ∙ pick (bit v i) (bit x i) (bit shifted i) (bit x (i - s)) (λ b. bit_shl x s i (leb-true s i (and_parts (bit v i) (leb s i) (agree_below_at (λ n. bit v n && leb s n) (bit v) 64 i mask.1 k ∙ b)).1) k)
           ∙ ap₂ (λ p q. cond (bit v i) (p || q) q) (h.bits (i - s) (omega arith)) (h.bits i k);
     }
 
@@ -148,12 +136,7 @@ bits_close x r p = record {
       ∙ raised_least 6 (λ a. bit x (index 6 a)) (λ a. bit y (index 6 a)) (λ a b w. c (index 6 a) (index 6 b) (index_lt 6 a) (index_lt 6 b) (within_among 6 a b w)) (λ a. v (index 6 a) (index_lt 6 a)) (assignment 6 i) (sym (closed_at x r i p h) ∙ t);
 }
 
-so_both : (p q : Bool) → (So p → So q) → (So q → So p) → p ≡ q
-so_both true q f g = sym (f refl)
-so_both false true f g = g refl
-so_both false false f g = refl
-
 -- closing bits that are closed changes nothing
 pub closed_stays : (x r : ℕ) → x < 2 ^ 64 → r < 2 ^ 64 → Closes x r → Closed x → r ≡ x
 closed_stays x r hx hr c k =
-    by_bits 64 r x hr hx (λ i h. so_both (bit r i) (bit x i) (c.least x k (λ _ _ t. t) i h) (c.covers i h))
+    by_bits 64 r x hr hx (λ i h. same_from_decides (bit r i) (bit x i) (c.least x k (λ _ _ t. t) i h, c.covers i h) (λ t. t, λ t. t))

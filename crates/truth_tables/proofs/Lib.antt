@@ -1,4 +1,3 @@
-pub mod BoolLaws
 pub mod MonotoneLaws
 pub mod Bitwise
 pub mod Closing

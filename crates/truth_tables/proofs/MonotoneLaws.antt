@@ -5,14 +5,14 @@ use mathlib.Core.Bool.{So, So-prop}
 use Rattle.std.proofs.lemmas.Bool.Decides.{Decides-and, Decides-like}
 use Rattle.std.proofs.lemmas.Bool.{or_right, or_cases}
 use Rattle.truth_tables.specs.Monotone.{Assignment, Within, Rises, Monotone, agree, raised}
-use Rattle.truth_tables.proofs.BoolLaws.{beq_exact}
+use Rattle.std.specs.Cmp.{booleans_Decides}
 
 pub by_value : (n : ℕ) {f g : Monotone n} → ((a : Assignment n) → f.0 a ≡ g.0 a) → f ≡ g
 by_value n e = Σ_prop_path (λ f r s i a b w h. So-prop (f b) (r a b w h) (s a b w h) i) (λ i a. e a i)
 
 -- the test of two functions tells whether they have equal values everywhere
 pub agree_exact : (n : ℕ) (f g : Assignment n → Bool) → Decides (agree n f g) ((a : Assignment n) → f a ≡ g a)
-agree_exact zero f g = Decides-like (agree zero f g) here (λ e. e tt) (beq_exact (f tt) (g tt))
+agree_exact zero f g = Decides-like (agree zero f g) here (λ e. e tt) (booleans_Decides (f tt) (g tt))
   where
     here : f tt ≡ g tt → (a : Unit {0}) → f a ≡ g a
     here e a = e

@@ -56,10 +56,14 @@ pub record Variable (j x : ℕ) : Type 0 where
   pub value : (i : ℕ) → i < 64 → bit x i ≡ bit i j
   pub holds : (i : ℕ) → i < 64 → (function x).0 (assignment 6 i) ≡ bit i j
 
+-- Variable j is true in i, and bit i of x is set without it too.
+unfoldable pub set_without : ℕ → ℕ → ℕ → Bool
+set_without x i j = bit i j && bit x (i - 2 ^ j)
+
 -- Bit i of x is set, and with none of the first n variables taken away from i: such an i is a least assignment.
 abbrev pub least_below : ℕ → ℕ → ℕ → Bool
 least_below x i zero = bit x i
-least_below x i (suc n) = least_below x i n && not (bit i n && bit x (i - 2 ^ n))
+least_below x i (suc n) = least_below x i n && not (set_without x i n)
 
 abbrev pub least_at : ℕ → ℕ → Bool
 least_at x i = least_below x i 6

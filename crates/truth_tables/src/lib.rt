@@ -4,63 +4,14 @@
 
 ghost use Rattle.std.specs.Prelude.{◌≡◌, ℕ, ◌-◌, ◌^◌, ◌<◌, ◌≤◌, true, false, ◌&&◌, if◌then◌else◌, Decides, MatchOption, ◌≢◌, nat_lt};
 ghost use Rattle.truth_tables.specs.Monotone.{agree, always, never, or_of, and_of};
-ghost use Rattle.truth_tables.specs.Tables.{assignment, bit, code, function, least_at, Closed, Closes, Variable};
+ghost use Rattle.truth_tables.specs.Tables.{assignment, bit, code, function, least_at, set_without, Closed, Closes, Variable};
 
-/// The bits of the function that x stands for: each step adds, for one variable, what holds without it.
-pub fn closed(x: u64) -> u64
-    ensures code { result ≡ code (function x) }
-    ensures closes { Closes x result }
-{
-    let x = x | ((x << 1) & 0xAAAA_AAAA_AAAA_AAAA);
-    let x = x | ((x << 2) & 0xCCCC_CCCC_CCCC_CCCC);
-    let x = x | ((x << 4) & 0xF0F0_F0F0_F0F0_F0F0);
-    let x = x | ((x << 8) & 0xFF00_FF00_FF00_FF00);
-    let x = x | ((x << 16) & 0xFFFF_0000_FFFF_0000);
-    x | ((x << 32) & 0xFFFF_FFFF_0000_0000)
-}
+use std::fmt;
 
-/// Whether x is closed: then its bits are those of the function that it stands for, and otherwise of no function.
-pub fn is_closed(x: u64) -> bool
-    ensures closed { Decides result (Closed x) }
-    ensures code { Decides result (code (function x) ≡ x) }
-    ensures other { result ≡ false → (y : ℕ) → code (function y) ≢ x }
-{
-    closed(x) == x
-}
-
-/// Always true, or never.
-pub fn constant(value: bool) -> u64
-    ensures { function result ≡ (if value then always 6 else never 6) }
-{
-    if value { 0xFFFF_FFFF_FFFF_FFFF } else { 0 }
-}
-
-/// True where one of the two is.
-pub fn either(x: u64, y: u64) -> u64
-    ensures { function result ≡ or_of 6 (function x) (function y) }
-{
-    x | y
-}
-
-/// True where both are.
-pub fn both(x: u64, y: u64) -> u64
-    ensures { function result ≡ and_of 6 (function x) (function y) }
-{
-    closed(x) & closed(y)
-}
-
-/// Whether the two stand for one function.
-pub fn alike(x: u64, y: u64) -> bool
-    ensures { result ≡ agree 6 (function x).0 (function y).0 }
-{
-    closed(x) == closed(y)
-}
-
-/// The value at the assignment of i, whose lowest six bits are the variables.
-pub fn value_at(x: u64, i: u8) -> bool
-    ensures { result ≡ (function x).0 (assignment 6 i) }
-{
-    (closed(x) >> (i % 64)) % 2 == 1
+/// The 64 values of a function, or bits that stand for one.
+#[derive(Clone, Copy, Debug)]
+pub struct TruthTable {
+    pub bits: u64,
 }
 
 // The truth tables of the six variables.
@@ -73,38 +24,131 @@ const VARIABLES: [u64; 6] = [
     0xFFFF_FFFF_0000_0000,
 ];
 
-/// The truth table of variable j, for j from 0 to 5.
-pub fn variable(j: usize) -> Option<u64>
-    ensures { MatchOption result (6 ≤ j) (λ x. Variable j x) }
-{
-    if j < VARIABLES.len() {
-        Some(VARIABLES[j])
-    } else {
-        None
+impl TruthTable {
+    /// The values of the function that the bits stand for: each step adds, for one variable, what holds without it.
+    pub fn closed(self) -> TruthTable
+        ensures code { result.bits ≡ code (function self.bits) }
+        ensures closes { Closes self.bits result.bits }
+    {
+        let x = self.bits;
+        let x = x | ((x << 1) & VARIABLES[0]);
+        let x = x | ((x << 2) & VARIABLES[1]);
+        let x = x | ((x << 4) & VARIABLES[2]);
+        let x = x | ((x << 8) & VARIABLES[3]);
+        let x = x | ((x << 16) & VARIABLES[4]);
+        let x = x | ((x << 32) & VARIABLES[5]);
+        TruthTable { bits: x }
+    }
+
+    /// Whether the bits are closed: then they are those of the function that they stand for, and otherwise of no function.
+    pub fn is_closed(self) -> bool
+        ensures closed { Decides result (Closed self.bits) }
+        ensures code { Decides result (code (function self.bits) ≡ self.bits) }
+        ensures other { result ≡ false → (y : ℕ) → code (function y) ≢ self.bits }
+    {
+        self.closed().bits == self.bits
+    }
+
+    /// Always true, or never.
+    pub fn constant(value: bool) -> TruthTable
+        ensures { function result.bits ≡ (if value then always 6 else never 6) }
+    {
+        TruthTable {
+            bits: if value { u64::MAX } else { 0 },
+        }
+    }
+
+    /// True where one of the two is.
+    #[tactic(auto, using(crate::proofs::Closing::function_or))]
+    pub fn either(self, other: TruthTable) -> TruthTable
+        ensures { function result.bits ≡ or_of 6 (function self.bits) (function other.bits) }
+    {
+        TruthTable {
+            bits: self.bits | other.bits,
+        }
+    }
+
+    /// True where both are.
+    pub fn both(self, other: TruthTable) -> TruthTable
+        ensures { function result.bits ≡ and_of 6 (function self.bits) (function other.bits) }
+    {
+        TruthTable {
+            bits: self.closed().bits & other.closed().bits,
+        }
+    }
+
+    /// Whether the two stand for one function.
+    pub fn alike(self, other: TruthTable) -> bool
+        ensures { result ≡ agree 6 (function self.bits).0 (function other.bits).0 }
+    {
+        self.closed().bits == other.closed().bits
+    }
+
+    /// The value at the assignment of i, whose lowest six bits are the variables.
+    pub fn value_at(self, i: u8) -> bool
+        ensures { result ≡ (function self.bits).0 (assignment 6 i) }
+    {
+        (self.closed().bits >> (i % 64)) % 2 == 1
+    }
+
+    /// The truth table of variable j, for j from 0 to 5.
+    pub fn variable(j: usize) -> Option<TruthTable>
+        ensures { MatchOption result (6 ≤ j) (λ t. Variable j t.bits) }
+    {
+        VARIABLES.get(j).map(|bits| TruthTable { bits: *bits })
+    }
+
+    // Whether variable j is true in the assignment of i, and bit i is set without it too.
+    #[tactic(auto, unfolding(crate::specs::Tables::set_without))]
+    fn holds_without(self, i: u8, j: u8) -> bool
+        requires { (i < 64) × (j < 6) }
+        ensures { result ≡ set_without self.bits i j }
+    {
+        (i >> j) % 2 == 1 && (self.bits >> (i - (1 << j))) % 2 == 1
+    }
+
+    /// Whether i is below 64, its bit is set, and none that has one variable less is.
+    pub fn is_least(self, i: u8) -> bool
+        ensures { result ≡ (nat_lt i 64 && least_at self.bits i) }
+    {
+        i < 64 && (self.bits >> i) % 2 == 1 && (0u8..6).all(|j| !self.holds_without(i, j))
     }
 }
 
-// Whether variable j is true in the assignment of i, and bit i is set without it too.
-fn holds_without(x: u64, i: u8, j: u8) -> bool
-    requires { (i < 64) × (j < 6) }
-    ensures { result ≡ (bit i j && bit x (i - 2 ^ j)) }
-{
-    if (i >> j) % 2 != 1 {
-        return false;
+/// The function in words: `never`, `always`, or the least sets of variables that make it true, as `x0 and x1 or x2`.
+impl fmt::Display for TruthTable {
+    fn fmt<W: fmt::Write>(&self, f: &mut fmt::Formatter<W>) -> fmt::Result {
+        let table = self.closed();
+        match table.bits {
+            0 => write!(f, "never"),
+            u64::MAX => write!(f, "always"),
+            _ => {
+                let mut or = "";
+                for i in 0u8..64 {
+                    if table.is_least(i) {
+                        write!(f, "{or}{}", Together(i))?;
+                        or = " or ";
+                    }
+                }
+                Ok(())
+            }
+        }
     }
-    (x >> (i - (1 << j))) % 2 == 1
 }
 
-/// Whether i is below 64, bit i of x is set, and none that has one variable less is.
-pub fn is_least(x: u64, i: u8) -> bool
-    ensures { result ≡ (nat_lt i 64 && least_at x i) }
-{
-    if i >= 64 {
-        return false;
+// The variables that are true in the assignment of a number, as `x0 and x2`.
+#[derive(Clone, Copy, Debug)]
+struct Together(u8);
+
+impl fmt::Display for Together {
+    fn fmt<W: fmt::Write>(&self, f: &mut fmt::Formatter<W>) -> fmt::Result {
+        let mut and = "";
+        for j in 0u8..6 {
+            if (self.0 >> j) % 2 == 1 {
+                write!(f, "{and}x{j}")?;
+                and = " and ";
+            }
+        }
+        Ok(())
     }
-    let mut least = (x >> i) % 2 == 1;
-    for j in 0u8..6 {
-        least = least & !holds_without(x, i, j);
-    }
-    least
 }
