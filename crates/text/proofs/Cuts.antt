@@ -6,6 +6,12 @@ use Rattle.text.specs.declared.words.Word.{Word}
 use Rattle.text.specs.Commas.{no_comma, CutAt}
 use Rattle.text.specs.Lines.{blank, inside, in_line, onward, word_bytes, Point, All, AllAre, Stops, WordNext, NoWord, LineNext, Skips, stay, line}
 
+-- the first n bytes pass the test, and the next does not
+pub record Front (test : ℕ → Bool) (bs : List ℕ) (n : ℕ) : Type 0 where
+  pub within : n ≤ length bs
+  pub all : AllAre test bs n
+  pub stops : Stops test bs n
+
 pub all_front : (test : ℕ → Bool) (bs : List ℕ) (n : ℕ) → n ≤ length bs → AllAre test bs n → All test (take n bs)
 all_front test bs n le h k lt =
     let long = length-take-le n bs le in
