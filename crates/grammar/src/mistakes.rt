@@ -123,9 +123,8 @@ impl Misfit {
 
 // Writes the first bytes of a word, those that are no printable ASCII as \xNN.
 fn show<W: fmt::Write>(text: &[u8], f: &mut fmt::Formatter<W>) -> fmt::Result {
-    for b in text.iter().take(SHOWN) {
-        let b = *b;
-        if b >= b' ' && b <= b'~' {
+    for &b in text.iter().take(SHOWN) {
+        if (b' '..=b'~').contains(&b) {
             f.write_char(char::from(b))?;
         } else {
             write!(f, "\\x{b:02X}")?;

@@ -1,14 +1,13 @@
 // The kinds and maps that a paper names, their words, and which map starts at which kind.
-ghost use Rattle.std.specs.Prelude.{◌≡◌, Some, Decides, MatchOption, ◌≢◌};
-ghost use Rattle.grammar.specs.declared.names.SimpleKind.{SimpleKind as OneKind};
-ghost use Rattle.grammar.specs.declared.names.MapWord.{MapWord as OneWord};
+ghost use Rattle.std.specs.Prelude.{◌≡◌, ℕ, List, Some, Decides, MatchOption, ◌≢◌};
+ghost use Rattle.std.specs.List.{Contains};
 ghost use Rattle.grammar.specs.Keywords.{kind_bytes, kind_words, map_bytes};
 ghost use Rattle.grammar.specs.Starts.{start_of, word_start, Starts};
 
 use std::fmt;
 
 /// A kind that has no halves.
-#[derive(Clone, Copy, PartialEq)]
+#[derive(Clone, Copy, PartialEq, Eq)]
 pub enum SimpleKind {
     Flag,
     Count,
@@ -24,6 +23,7 @@ pub enum KindName {
 }
 
 /// A map from a simple kind: `cleared` with a clearance from 1 to 4, `under` with an assignment from 0 to 63.
+// Numbers, since a type with these bounds would ask more of who makes a map.
 #[derive(Clone, Copy)]
 pub enum SimpleMap {
     Present,
@@ -49,38 +49,32 @@ pub enum MapWord {
     Right,
 }
 
-/// The simple kind that a word names.
-pub fn simple_kind(word: &[u8]) -> Option<SimpleKind>
-    ensures { MatchOption result ((k : OneKind) → word.now ≢ kind_bytes k) (λ k. word.now ≡ kind_bytes k) }
-{
-    match word {
-        b"flag" => Some(SimpleKind::Flag),
-        b"count" => Some(SimpleKind::Count),
-        b"clearance" => Some(SimpleKind::Clearance),
-        b"condition" => Some(SimpleKind::Condition),
-        _ => None,
-    }
+/// What a paper names by a word, each value by one of its own.
+pub trait Keyword: Copy + 'static {
+    ghost bytes: { Self → List ℕ };
+
+    /// All values.
+    fn all() -> &'static [Self]
+        ensures { (k : Self) → Contains result.now k };
+
+    /// The word that names the value.
+    fn word(self) -> &'static str
+        ensures { result.now ≡ bytes self };
 }
 
-/// The map that a word begins.
-pub fn map_word(word: &[u8]) -> Option<MapWord>
-    ensures { MatchOption result ((m : OneWord) → word.now ≢ map_bytes m) (λ m. word.now ≡ map_bytes m) }
-{
-    match word {
-        b"present" => Some(MapWord::Present),
-        b"cleared" => Some(MapWord::Cleared),
-        b"under" => Some(MapWord::Under),
-        b"left" => Some(MapWord::Left),
-        b"right" => Some(MapWord::Right),
-        _ => None,
-    }
-}
+impl Keyword for SimpleKind {
+    ghost bytes = { kind_bytes };
 
-impl SimpleKind {
-    /// The word that names the kind.
-    pub fn name(self) -> &'static str
-        ensures { result.now ≡ kind_bytes self }
-    {
+    fn all() -> &'static [SimpleKind] {
+        &[
+            SimpleKind::Flag,
+            SimpleKind::Count,
+            SimpleKind::Clearance,
+            SimpleKind::Condition,
+        ]
+    }
+
+    fn word(self) -> &'static str {
         match self {
             SimpleKind::Flag => "flag",
             SimpleKind::Count => "count",
@@ -90,11 +84,45 @@ impl SimpleKind {
     }
 }
 
+impl Keyword for MapWord {
+    ghost bytes = { map_bytes };
+
+    fn all() -> &'static [MapWord] {
+        &[
+            MapWord::Present,
+            MapWord::Cleared,
+            MapWord::Under,
+            MapWord::Left,
+            MapWord::Right,
+        ]
+    }
+
+    fn word(self) -> &'static str {
+        match self {
+            MapWord::Present => "present",
+            MapWord::Cleared => "cleared",
+            MapWord::Under => "under",
+            MapWord::Left => "left",
+            MapWord::Right => "right",
+        }
+    }
+}
+
+/// What a word names.
+pub fn named<K: Keyword>(word: &[u8]) -> Option<K>
+    ensures { MatchOption result ((k : K) → word.now ≢ K.bytes k) (λ k. word.now ≡ K.bytes k) }
+{
+    K::all()
+        .iter()
+        .copied()
+        .find(|k| k.word().as_bytes() == word)
+}
+
 impl fmt::Display for SimpleKind {
     ghost output = { λ k. Some (kind_bytes k) };
 
     fn fmt<W: fmt::Write>(&self, f: &mut fmt::Formatter<W>) -> fmt::Result {
-        f.write_str(self.name())
+        f.write_str(self.word())
     }
 }
 
@@ -124,6 +152,7 @@ impl MapWord {
     }
 }
 
+// Written beside the start of a `MapWord`, since a map from a simple kind always has one, and no Option.
 impl SimpleMap {
     /// The kind that the map starts at.
     pub fn start(self) -> SimpleKind
@@ -144,10 +173,10 @@ impl MapName {
     {
         match (self, kind) {
             (MapName::Direct(m), KindName::Simple(k)) => m.start() == k,
-            (MapName::Left(None), KindName::Pair(_, _)) => true,
-            (MapName::Right(None), KindName::Pair(_, _)) => true,
-            (MapName::Left(Some(m)), KindName::Pair(left, _)) => m.start() == left,
-            (MapName::Right(Some(m)), KindName::Pair(_, right)) => m.start() == right,
+            (MapName::Left(then), KindName::Pair(half, _))
+            | (MapName::Right(then), KindName::Pair(_, half)) => {
+                then.is_none_or(|m| m.start() == half)
+            }
             _ => false,
         }
     }

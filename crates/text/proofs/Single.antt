@@ -1,11 +1,9 @@
 -- A point of a text has at most one next word, and one first word of the lines below.
-use Rattle.std.proofs.Common.{◌≡◌, ℕ, suc, Bool, true, false, not, ◌&&◌, List, [], ◌∷◌, ◌++◌, length, sym, refl, ap, ◌∙◌, subst, append-nil, arith, length-append}
+use Rattle.std.proofs.Common.{◌≡◌, ℕ, suc, Bool, List, [], ◌∷◌, ◌++◌, length, sym, refl, ap, ◌∙◌, subst, append-nil, arith, length-append}
 use Rattle.std.proofs.lemmas.List.{get_or_append_left}
+use Rattle.std.proofs.lemmas.Grind.{common_steps}
 use Rattle.text.specs.declared.words.Word.{Word}
 use Rattle.text.specs.Lines.{blank, inside, in_line, onward, word_bytes, Point, All, Stops, WordNext, NoWord, NoMore, LineNext, LastLine, Skips, stay, line, WordBelow}
-
-pub clash : (b : Bool) → b ≡ true → b ≡ false → ⊥
-clash b h f = let z : ◌≡◌ {A = ℕ} 0 1 = cc in omega arith
 
 all_rest : (test : ℕ → Bool) (x : ℕ) (xs : List ℕ) → All test (x ∷ xs) → All test xs
 all_rest test x xs a k lt = a (suc k) (omega arith)
@@ -13,21 +11,17 @@ all_rest test x xs a k lt = a (suc k) (omega arith)
 -- a list has one longest front whose bytes pass a test
 front_one : (test : ℕ → Bool) (xs ys us vs : List ℕ) → All test xs → All test us → Stops test ys 0 → Stops test vs 0 → xs ++ ys ≡ us ++ vs → (xs ≡ us) × (ys ≡ vs)
 front_one test [] ys [] vs a b s t e = (refl, e)
-front_one test [] ys (u ∷ us) vs a b s t e = absurd (clash (test u) (b 0 (omega arith)) (subst (λ l. Stops test l 0) e s (omega arith)))
-front_one test (x ∷ xs) ys [] vs a b s t e = absurd (clash (test x) (a 0 (omega arith)) (subst (λ l. Stops test l 0) (sym e) t (omega arith)))
+front_one test [] ys (u ∷ us) vs a b s t e = let one = b 0 (omega arith) in let other = rw e at s in absurd (cc (other (omega arith)))
+front_one test (x ∷ xs) ys [] vs a b s t e = let one = a 0 (omega arith) in let other = rw (← e) at t in absurd (cc (other (omega arith)))
 front_one test (x ∷ xs) ys (u ∷ us) vs a b s t e =
     let same : x ≡ u = cc in
     let others : xs ++ ys ≡ us ++ vs = cc in
     let rec = front_one test xs ys us vs (all_rest test x xs a) (all_rest test u us b) s t others in
     ((λ i. same i ∷ rec.0 i), rec.1)
 
-dark : (t u : Bool) → (not t && u) ≡ true → t ≡ false
-dark true u e = sym e
-dark false u e = refl
-
 -- no word begins with a blank
 word_front : {p q : Point} {w : Word} → WordNext p w q → Stops blank (word_bytes w ++ q.left) 0
-word_front {q = q} {w = w} h lt = ap blank (get_or_append_left (word_bytes w) q.left 0 0 h.some) ∙ dark _ _ (h.solid 0 h.some)
+word_front {q = q} {w = w} h lt = let one = h.solid 0 h.some in grind (arith, common_steps, get_or_append_left (word_bytes w) q.left 0 0 h.some)
 
 pub one_word : {p q r : Point} {w v : Word} → WordNext p w q → WordNext p v r → (word_bytes w ≡ word_bytes v) × (q ≡ r)
 one_word {p} {q} {r} {w} {v} h g =
@@ -40,9 +34,9 @@ one_word {p} {q} {r} {w} {v} h g =
 pub not_both : {p q : Point} {w : Word} → NoWord p → WordNext p w q → ⊥
 not_both {p} {q} {w} h g =
     let cuts = front_one blank h.gap h.others g.gap (word_bytes w ++ q.left) h.blanks g.blanks h.ends (word_front g) (sym h.cut ∙ g.cut) in
-    let first = get_or_append_left (word_bytes w) q.left 0 0 g.some in
-    let stops = subst (λ l. Stops inside l 0) cuts.1 h.none in
-    clash _ (ap inside first ∙ g.solid 0 g.some) (stops (omega (arith, g.some, length-append (word_bytes w) q.left)))
+    let one = g.solid 0 g.some in
+    let none = rw cuts.1 at h.none in
+    grind (arith, common_steps, g.some, none, get_or_append_left (word_bytes w) q.left 0 0 g.some, length-append (word_bytes w) q.left)
 
 one_line : {p q r : Point} → LineNext p q → LineNext p r → q ≡ r
 one_line {p} {q} {r} h g =
@@ -55,8 +49,8 @@ one_line {p} {q} {r} h g =
 not_last : {p q : Point} → LastLine p → LineNext p q → ⊥
 not_last {p} {q} h g =
     let cuts = front_one in_line p.left [] g.line (10 ∷ q.left) h g.one (λ lt. absurd (omega arith)) (λ _. refl) (append-nil p.left ∙ g.cut) in
-    let z = ap length cuts.1 in
-    omega arith
+    let clash = cuts.1 in
+    cc
 
 pub one_first : {p q r : Point} {w v : Word} → WordBelow p w q → WordBelow p v r → (word_bytes w ≡ word_bytes v) × (q ≡ r)
 one_first {p} {q} {r} {w} {v} h g = go h.1 h.2 g.1 g.2

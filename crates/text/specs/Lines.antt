@@ -24,6 +24,10 @@ Stops test bs n = n < length bs → test (slice_index bs n) ≡ false
 abbrev pub onward : Place → ℕ → Place
 onward p n = record { line = p.line; column = min (p.column + n) (2 ^ 64 - 1) }
 
+-- the start of the next line; the largest number stands for all beyond
+abbrev pub place_below : Place → Place
+place_below p = record { line = min (p.line + 1) (2 ^ 64 - 1); column = 1 }
+
 -- a byte of a line: any but a line feed
 abbrev pub in_line : ℕ → Bool
 in_line b = not (b == 10)
@@ -79,7 +83,7 @@ pub record LineNext (p q : Point) : Type 0 where
   pub line : List ℕ
   pub cut : p.left ≡ line ++ (10 ∷ q.left)
   pub one : All in_line line
-  pub below : q.place ≡ record { line = min (p.place.line + 1) (2 ^ 64 - 1); column = 1 }
+  pub below : q.place ≡ place_below p.place
 
 -- no line feed is left
 abbrev pub LastLine : Point → Type 0
@@ -101,4 +105,4 @@ NoMore p q = Skips p q × NoWord q × LastLine q
 -- for a point in the last line, the start of the line after it;
 -- the empty line after a final line feed counts as that line itself
 abbrev pub end_place : Point → Place
-end_place p = cond (length p.left == 0 && p.place.column == 1) p.place (record { line = min (p.place.line + 1) (2 ^ 64 - 1); column = 1 })
+end_place p = cond (length p.left == 0 && p.place.column == 1) p.place (place_below p.place)

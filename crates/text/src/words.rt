@@ -1,6 +1,6 @@
 // Words and their places in a text, and a reader that gives the words of a line one by one.
 ghost use Rattle.std.specs.Prelude.{◌≡◌, ◌≤◌, length, MatchBool, MatchOption};
-ghost use Rattle.text.specs.Lines.{point, top, blank, inside, in_line, onward, AllAre, Stops, WordNext, NoWord, LineNext, LastLine, NoMore, WordBelow, end_place};
+ghost use Rattle.text.specs.Lines.{point, top, blank, inside, onward, place_below, WordNext, NoWord, LineNext, LastLine, NoMore, WordBelow, end_place};
 
 /// A line and a column of a text, both from 1. A place past the largest number is that number.
 #[derive(Clone, Copy)]
@@ -33,6 +33,16 @@ impl Place {
             column: self.column.saturating_add(n),
         }
     }
+
+    /// The start of the next line.
+    pub fn below(self) -> Place
+        ensures { result ≡ place_below self }
+    {
+        Place {
+            line: self.line.saturating_add(1),
+            column: 1,
+        }
+    }
 }
 
 fn is_blank(b: u8) -> bool
@@ -45,45 +55,6 @@ fn is_inside(b: u8) -> bool
     ensures { result ≡ inside b }
 {
     !is_blank(b) && b != b'#' && b != b'\n'
-}
-
-// How many bytes at the front are blanks.
-fn blanks(text: &[u8]) -> usize
-    ensures within { result ≤ length text.now }
-    ensures all { AllAre blank text.now result }
-    ensures stops { Stops blank text.now result }
-{
-    let mut n = 0;
-    while n < text.len() && is_blank(text[n]) {
-        n += 1;
-    }
-    n
-}
-
-// How many bytes at the front may stand in a word.
-fn insides(text: &[u8]) -> usize
-    ensures within { result ≤ length text.now }
-    ensures all { AllAre inside text.now result }
-    ensures stops { Stops inside text.now result }
-{
-    let mut n = 0;
-    while n < text.len() && is_inside(text[n]) {
-        n += 1;
-    }
-    n
-}
-
-// How many bytes stand before the first line feed, or before the end where there is none.
-fn line_len(text: &[u8]) -> usize
-    ensures within { result ≤ length text.now }
-    ensures all { AllAre in_line text.now result }
-    ensures stops { Stops in_line text.now result }
-{
-    let mut n = 0;
-    while n < text.len() && text[n] != b'\n' {
-        n += 1;
-    }
-    n
 }
 
 impl<'a> Reader<'a> {
@@ -108,10 +79,9 @@ impl<'a> Reader<'a> {
     pub fn word(&mut self) -> Option<Word<'a>>
         ensures { MatchOption result (NoWord (point self.old) × (self.new ≡ self.old)) (λ w. WordNext (point self.old) w (point self.new)) }
     {
-        let rest = self.rest;
-        let gap = blanks(rest);
-        let after = &rest[gap..];
-        let n = insides(after);
+        let gap = self.rest.iter().take_while(|&&b| is_blank(b)).count();
+        let after = &self.rest[gap..];
+        let n = after.iter().take_while(|&&b| is_inside(b)).count();
         if n == 0 {
             return None;
         }
@@ -119,7 +89,7 @@ impl<'a> Reader<'a> {
         self.rest = &after[n..];
         self.place = place.onward(n);
         Some(Word {
-            text: &after[0..n],
+            text: &after[..n],
             place,
         })
     }
@@ -128,16 +98,11 @@ impl<'a> Reader<'a> {
     pub fn next_line(&mut self) -> bool
         ensures { MatchBool result (LineNext (point self.old) (point self.new)) (LastLine (point self.old) × (self.new ≡ self.old)) }
     {
-        let rest = self.rest;
-        let n = line_len(rest);
-        if n == rest.len() {
+        let Some(n) = self.rest.iter().position(|&b| b == b'\n') else {
             return false;
-        }
-        self.rest = &rest[n + 1..];
-        self.place = Place {
-            line: self.place.line.saturating_add(1),
-            column: 1,
         };
+        self.rest = &self.rest[n + 1..];
+        self.place = self.place.below();
         true
     }
 
@@ -163,10 +128,7 @@ impl<'a> Reader<'a> {
         if self.rest.is_empty() && self.place.column == 1 {
             self.place
         } else {
-            Place {
-                line: self.place.line.saturating_add(1),
-                column: 1,
-            }
+            self.place.below()
         }
     }
 }

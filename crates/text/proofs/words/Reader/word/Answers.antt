@@ -1,23 +1,41 @@
-use Rattle.std.proofs.Common.{◌-◌, length, take, drop, refl, subst, arith, rules}
-use native.Mathlib.Nat.{sub-zero}
-use Rattle.std.proofs.lemmas.List.{take_rest}
-use Rattle.text.specs.Lines.{inside, Stops}
-use Rattle.text.proofs.Cuts.{word_next, no_word}
+use Rattle.std.proofs.Common.{ℕ, ◌-◌, ◌≤◌, Bool, List, length, take, drop, refl, arith, rules}
+use Rattle.std.proofs.lemmas.Grind.{common_steps}
+use Rattle.text.specs.Lines.{blank, inside, AllAre, Stops}
 use Rattle.text.proofs.words.Reader.word.Goals as goal
+
+-- the first n bytes pass the test, and the next does not
+record Front (test : ℕ → Bool) (bs : List ℕ) (n : ℕ) : Type 0 where
+  within : n ≤ length bs
+  all : AllAre test bs n
+  stops : Stops test bs n
 
 pub returns-then-n-eq0 : goal.returns-then-n-eq0
 returns-then-n-eq0 c =
     let whole = c.args.self.now.rest.now in
-    let g = c.blanks-gap.result in
-    let skip = c.blanks-gap.ensures in
-    (no_word _ g _ (take_rest whole g) skip.within skip.all skip.stops (subst (Stops inside _) c.if-n-eq0.true c.insides-n.ensures.stops), refl)
+    let gap : Front blank whole c.count-gap.result = search rules in (
+      record {
+        gap = take c.count-gap.result whole;
+        others = drop c.count-gap.result whole;
+        cut = grind (arith, common_steps);
+        blanks = grind (arith, common_steps);
+        ends = grind (arith, common_steps);
+        none = grind (arith, common_steps);
+      },
+      refl,
+    )
 
 pub returns : goal.returns
 returns c =
     let whole = c.args.self.now.rest.now in
-    let g = c.blanks-gap.result in
-    let n = c.insides-n.result in
-    let after = take (length whole - g) (drop g whole) in
-    let skip = c.blanks-gap.ensures in
-    let read = c.insides-n.ensures in
-    word_next _ _ _ g n after (take_rest whole g) skip.within skip.all read.within (omega arith) read.all read.stops (search (rules, sub-zero)) (take_rest after n) c.onward-place.ensures c.onward-self.ensures
+    let gap : Front blank whole c.count-gap.result = search rules in
+    let word : Front inside (take (length whole - c.count-gap.result) (drop c.count-gap.result whole)) c.count-n.result = search rules in
+    record {
+      gap = take c.count-gap.result whole;
+      cut = grind (arith, common_steps);
+      blanks = grind (arith, common_steps);
+      some = grind (arith, common_steps);
+      solid = grind (arith, common_steps);
+      longest = grind (arith, common_steps);
+      here = grind (arith, common_steps);
+      after = grind (arith, common_steps);
+    }
