@@ -7,7 +7,7 @@ ghost use Rattle.text.specs.Lines.{word_bytes};
 ghost use Rattle.player.specs.Items.{Spells};
 
 use grammar::mistakes::{Expected, Mistake};
-use grammar::names::SimpleKind;
+use grammar::names::{SimpleKind, SimpleMap};
 use kinds::clearances::Clearance;
 use kinds::codes::Coded;
 use kinds::conditions::Condition;
@@ -15,12 +15,14 @@ use kinds::counts::Count;
 use kinds::flags::Flag;
 use kinds::pairs::Pair;
 use kinds::semiring::Kind;
+use maps::{Cleared, Map, Present, Under};
+use std::fmt::Display;
 use text::numbers::number;
 use text::split::at_comma;
 use text::words::Word;
 
-/// A kind whose annotations a paper can write.
-pub trait Item: Kind {
+/// A kind whose annotations a paper can write, and the program can tell in words.
+pub trait Item: Kind + Display {
     // Which bytes write the annotation that a value stands for.
     ghost written: { List ℕ → Self → Type 0 };
 
@@ -29,6 +31,18 @@ pub trait Item: Kind {
         ensures { IfOk result (written (word_bytes word.entry)) };
 }
 
+/// A kind without halves, and its map to flags.
+pub trait Simple: Item {
+    type ToFlag: Map<Self, Flag>;
+
+    /// The map that a paper names so, where it starts at this kind and has its number within its bounds.
+    fn to_flag(map: SimpleMap) -> Option<Self::ToFlag>;
+}
+
+/// No map starts at flags.
+#[derive(Clone, Copy, Debug)]
+pub enum NoMap {}
+
 /// The annotation whose code the word writes; a mistake at the word where it writes none.
 pub fn coded_item<'a, K: Coded>(word: Word<'a>, kind: SimpleKind) -> Result<K, Mistake<'a>>
     ensures { MatchResult result (λ v. Spells (K.Coded.number v) (word_bytes word.entry)) (λ e. (e.place ≡ word.entry.place) × ((v : K) → Spells (K.Coded.number v) (word_bytes word.entry) → ⊥)) }
@@ -36,10 +50,7 @@ pub fn coded_item<'a, K: Coded>(word: Word<'a>, kind: SimpleKind) -> Result<K, M
     let Some(code) = number(word.text) else {
         return Err(Mistake::at(word, Expected::Item(kind)));
     };
-    match K::read(code) {
-        Some(x) => Ok(x),
-        None => Err(Mistake::at(word, Expected::Item(kind))),
-    }
+    K::read(code).ok_or(Mistake::at(word, Expected::Item(kind)))
 }
 
 impl Item for Flag {
@@ -47,6 +58,26 @@ impl Item for Flag {
 
     fn read_item<'a>(word: Word<'a>) -> Result<Flag, Mistake<'a>> {
         coded_item(word, SimpleKind::Flag)
+    }
+}
+
+impl Map<Flag, Flag> for NoMap {
+    ghost image = { λ m x. x };
+
+    fn map(&self, x: Flag) -> Flag {
+        match *self {}
+    }
+
+    fn homomorphism(&self) {
+        match *self {}
+    }
+}
+
+impl Simple for Flag {
+    type ToFlag = NoMap;
+
+    fn to_flag(_map: SimpleMap) -> Option<NoMap> {
+        None
     }
 }
 
@@ -58,6 +89,17 @@ impl Item for Count {
     }
 }
 
+impl Simple for Count {
+    type ToFlag = Present;
+
+    fn to_flag(map: SimpleMap) -> Option<Present> {
+        match map {
+            SimpleMap::Present => Some(Present),
+            _ => None,
+        }
+    }
+}
+
 impl Item for Clearance {
     ghost written = { λ bs x. Spells (rank x) bs };
 
@@ -66,11 +108,33 @@ impl Item for Clearance {
     }
 }
 
+impl Simple for Clearance {
+    type ToFlag = Cleared;
+
+    fn to_flag(map: SimpleMap) -> Option<Cleared> {
+        match map {
+            SimpleMap::Cleared(from) => Cleared::new(from),
+            _ => None,
+        }
+    }
+}
+
 impl Item for Condition {
     ghost written = { λ bs x. Spells (code (function x.bits)) bs };
 
     fn read_item<'a>(word: Word<'a>) -> Result<Condition, Mistake<'a>> {
         coded_item(word, SimpleKind::Condition)
+    }
+}
+
+impl Simple for Condition {
+    type ToFlag = Under;
+
+    fn to_flag(map: SimpleMap) -> Option<Under> {
+        match map {
+            SimpleMap::Under(at) => Under::new(at),
+            _ => None,
+        }
     }
 }
 

@@ -1,20 +1,20 @@
 // Plays a paper that was read: chooses the kinds and the map, coarsens the annotations, and tells what came out.
 ghost use Rattle.std.specs.Prelude.{◌≡◌, length, IfOk, vec_len};
 
-use crate::items::Item;
-use crate::wording::Worded;
+use crate::items::{Item, Simple};
 use grammar::mistakes::{Expected, Found, Mistake};
-use grammar::names::{KindName, MapName, SimpleKind, SimpleMap};
+use grammar::names::{KindName, MapName, SimpleKind};
 use kinds::clearances::Clearance;
 use kinds::conditions::Condition;
 use kinds::counts::Count;
 use kinds::flags::Flag;
 use kinds::pairs::Pair;
 use kinds::semiring::Kind;
-use maps::{Chain, Cleared, Left, Map, Present, Right, Under};
+use maps::{Chain, Left, Map, Right};
 use papers::statements::{Failure, Paper, read_paper};
-use rows::coarsening::{Coarsening, coarsen};
+use rows::coarsening::{BothWays, Coarsening, coarsen};
 use std::alloc::{AllocError, Global};
+use std::fmt::{Display, Write};
 use text::words::{Place, Word};
 
 // The annotations that the words write, in order.
@@ -28,228 +28,116 @@ fn read_items<'a, K: Item>(heap: Global, words: &[Word<'a>]) -> Result<Vec<K>, F
     Ok(items)
 }
 
-// One line: what is told, an annotation and its image.
-fn push_mapped<K: Worded, L: Worded>(
-    heap: Global,
+// Tells a join of a row, its image, and the join of the images.
+fn tell_both_ways<K: Kind + Display, L: Kind + Display>(
     out: &mut String,
     what: &str,
-    x: K,
-    image: L,
+    both: BothWays<K, L>,
 ) -> Result<(), AllocError> {
-    let x = x.words(heap)?;
-    let image = image.words(heap)?;
-    let line = format!(in heap; "{what}{x} -> {image}\n")?;
-    out.push_str(line.as_str())
+    let BothWays {
+        join,
+        mapped,
+        of_images,
+    } = both;
+    writeln!(out, "{what}: {join} -> {mapped}")?;
+    writeln!(out, "{what} of the images: {of_images}")
 }
 
-// One line: the join of the images.
-fn push_images<L: Worded>(
-    heap: Global,
-    out: &mut String,
-    what: &str,
-    x: L,
-) -> Result<(), AllocError> {
-    let x = x.words(heap)?;
-    let line = format!(in heap; "{what}{x}\n")?;
-    out.push_str(line.as_str())
-}
-
-// The items with their images, one a line.
-fn push_items<K: Kind + Worded, L: Kind + Worded>(
-    heap: Global,
+// Tells the items with their images, the joins, and whether mapping before and after agree.
+fn tell<K: Item, L: Kind + Display>(
     out: &mut String,
     items: &[K],
-    images: &[L],
-) -> Result<(), AllocError> {
-    for i in 0..items.len().min(images.len()) {
-        let number = format!(in heap; "item {i}: ")?;
-        push_mapped(heap, out, number.as_str(), items[i], images[i])?;
-    }
-    Ok(())
-}
-
-// The sums and the products, mapped after and mapped before, and whether they agree.
-fn push_joins<K: Kind + Worded, L: Kind + Worded>(
-    heap: Global,
-    out: &mut String,
     c: &Coarsening<K, L>,
 ) -> Result<(), AllocError> {
-    push_mapped(heap, out, "sum: ", c.sum, c.sum_mapped)?;
-    push_images(heap, out, "sum of the images: ", c.mapped_sum)?;
-    push_mapped(heap, out, "product: ", c.product, c.product_mapped)?;
-    push_images(heap, out, "product of the images: ", c.mapped_product)?;
-    if c.agree {
-        out.push_str("mapping before and mapping after agree\n")
-    } else {
-        out.push_str("mapping before and mapping after DIFFER\n")
+    for (i, (item, image)) in items.iter().zip(&c.images).enumerate() {
+        writeln!(out, "item {i}: {item} -> {image}")?;
     }
-}
-
-// Plays the paper under a map from K to L.
-fn play_map<'a, K: Item + Worded, L: Kind + Worded, M: Map<K, L>>(
-    heap: Global,
-    paper: &Paper<'a>,
-    map: &M,
-) -> Result<String, Failure<'a>> {
-    let items: Vec<K> = read_items(heap, &paper.items)?;
-    let c = coarsen(heap, map, &items)?;
-    let kind = paper.kind;
-    let name = paper.map;
-    let mut out = format!(in heap; "kind: {kind}\nmap: {name}\n")?;
-    push_items(heap, &mut out, &items, &c.images)?;
-    push_joins(heap, &mut out, &c)?;
-    Ok(out)
+    tell_both_ways(out, "sum", c.sum)?;
+    tell_both_ways(out, "product", c.product)?;
+    let verdict = if c.agree { "agree" } else { "DIFFER" };
+    writeln!(out, "mapping before and mapping after {verdict}")
 }
 
 // A map that a paper cannot name at this kind: the reader of papers lets none through.
-fn no_map<'a>() -> Failure<'a> {
-    Failure::Mistake(Mistake {
+fn no_map<'a>() -> Mistake<'a> {
+    Mistake {
         place: Place { line: 2, column: 1 },
         found: Found::EndOfLine,
         expected: Expected::Map,
-    })
+    }
 }
 
-// Plays a paper whose map takes the left half, of the kind L, and maps it on by `then`.
-fn play_left<'a, L: Item + Worded, M: Map<L, Flag> + Drop>(
+// A paper that is played, and the memory for what comes out.
+#[derive(Drop)]
+struct Player<'a> {
     heap: Global,
-    paper: &Paper<'a>,
-    then: M,
-    right: SimpleKind,
-) -> Result<String, Failure<'a>> {
-    let map: Chain<Left, M, L> = Chain::new(Left, then);
-    match right {
-        SimpleKind::Flag => play_map::<Pair<L, Flag>, Flag, _>(heap, paper, &map),
-        SimpleKind::Count => play_map::<Pair<L, Count>, Flag, _>(heap, paper, &map),
-        SimpleKind::Clearance => play_map::<Pair<L, Clearance>, Flag, _>(heap, paper, &map),
-        SimpleKind::Condition => play_map::<Pair<L, Condition>, Flag, _>(heap, paper, &map),
-    }
+    paper: Paper<'a>,
 }
 
-// Plays a paper whose map takes the right half, of the kind R, and maps it on by `then`.
-fn play_right<'a, R: Item + Worded, M: Map<R, Flag> + Drop>(
-    heap: Global,
-    paper: &Paper<'a>,
-    then: M,
-    left: SimpleKind,
-) -> Result<String, Failure<'a>> {
-    let map: Chain<Right, M, R> = Chain::new(Right, then);
-    match left {
-        SimpleKind::Flag => play_map::<Pair<Flag, R>, Flag, _>(heap, paper, &map),
-        SimpleKind::Count => play_map::<Pair<Count, R>, Flag, _>(heap, paper, &map),
-        SimpleKind::Clearance => play_map::<Pair<Clearance, R>, Flag, _>(heap, paper, &map),
-        SimpleKind::Condition => play_map::<Pair<Condition, R>, Flag, _>(heap, paper, &map),
+impl<'a> Player<'a> {
+    // Plays the paper under a map from K to L.
+    fn under<K: Item, L: Kind + Display, M: Map<K, L>>(
+        &self,
+        map: &M,
+    ) -> Result<String, Failure<'a>> {
+        let items: Vec<K> = read_items(self.heap, &self.paper.items)?;
+        let c = coarsen(self.heap, map, &items)?;
+        let kind = self.paper.kind;
+        let name = self.paper.map;
+        let mut out = format!(in self.heap; "kind: {kind}\nmap: {name}\n")?;
+        tell(&mut out, &items, &c)?;
+        Ok(out)
     }
-}
 
-// Plays a paper whose map takes a half, of the kind K, and stops there.
-fn play_half<'a, L: Item + Worded, R: Item + Worded>(
-    heap: Global,
-    paper: &Paper<'a>,
-    is_left: bool,
-) -> Result<String, Failure<'a>> {
-    if is_left {
-        play_map::<Pair<L, R>, L, Left>(heap, paper, &Left)
-    } else {
-        play_map::<Pair<L, R>, R, Right>(heap, paper, &Right)
+    // Plays a paper of the simple kind K.
+    fn simple<K: Simple>(&self) -> Result<String, Failure<'a>> {
+        match self.paper.map {
+            MapName::Direct(map) => self.under::<K, Flag, K::ToFlag>(&K::to_flag(map).ok_or(no_map())?),
+            _ => Err(Failure::Mistake(no_map())),
+        }
     }
-}
 
-// The same, by the names of the halves.
-fn play_half_of<'a, L: Item + Worded>(
-    heap: Global,
-    paper: &Paper<'a>,
-    right: SimpleKind,
-    is_left: bool,
-) -> Result<String, Failure<'a>> {
-    match right {
-        SimpleKind::Flag => play_half::<L, Flag>(heap, paper, is_left),
-        SimpleKind::Count => play_half::<L, Count>(heap, paper, is_left),
-        SimpleKind::Clearance => play_half::<L, Clearance>(heap, paper, is_left),
-        SimpleKind::Condition => play_half::<L, Condition>(heap, paper, is_left),
+    // Plays a paper of pairs of L and R.
+    fn pair<L: Simple, R: Simple>(&self) -> Result<String, Failure<'a>> {
+        match self.paper.map {
+            MapName::Left(None) => self.under::<Pair<L, R>, L, Left>(&Left),
+            MapName::Right(None) => self.under::<Pair<L, R>, R, Right>(&Right),
+            MapName::Left(Some(then)) => {
+                let map: Chain<Left, L::ToFlag, L> = Chain::new(Left, L::to_flag(then).ok_or(no_map())?);
+                self.under::<Pair<L, R>, Flag, Chain<Left, L::ToFlag, L>>(&map)
+            }
+            MapName::Right(Some(then)) => {
+                let map: Chain<Right, R::ToFlag, R> = Chain::new(Right, R::to_flag(then).ok_or(no_map())?);
+                self.under::<Pair<L, R>, Flag, Chain<Right, R::ToFlag, R>>(&map)
+            }
+            MapName::Direct(_) => Err(Failure::Mistake(no_map())),
+        }
     }
-}
 
-fn play_halves<'a>(
-    heap: Global,
-    paper: &Paper<'a>,
-    left: SimpleKind,
-    right: SimpleKind,
-    is_left: bool,
-) -> Result<String, Failure<'a>> {
-    match left {
-        SimpleKind::Flag => play_half_of::<Flag>(heap, paper, right, is_left),
-        SimpleKind::Count => play_half_of::<Count>(heap, paper, right, is_left),
-        SimpleKind::Clearance => play_half_of::<Clearance>(heap, paper, right, is_left),
-        SimpleKind::Condition => play_half_of::<Condition>(heap, paper, right, is_left),
-    }
-}
-
-// Plays a paper of a simple kind, or of a pair one of whose halves is mapped on by a simple map.
-fn play_present<'a>(heap: Global, paper: &Paper<'a>) -> Result<String, Failure<'a>> {
-    match (paper.kind, paper.map) {
-        (KindName::Pair(_, right), MapName::Left(_)) => play_left::<Count, Present>(
-            heap, paper, Present, right,
-        ),
-        (KindName::Pair(left, _), MapName::Right(_)) => play_right::<Count, Present>(
-            heap, paper, Present, left,
-        ),
-        _ => play_map::<Count, Flag, Present>(heap, paper, &Present),
-    }
-}
-
-fn play_cleared<'a>(heap: Global, paper: &Paper<'a>, from: u8) -> Result<String, Failure<'a>> {
-    let Some(map) = Cleared::new(from) else {
-        return Err(no_map());
-    };
-    match (paper.kind, paper.map) {
-        (KindName::Pair(_, right), MapName::Left(_)) => play_left::<Clearance, Cleared>(
-            heap, paper, map, right,
-        ),
-        (KindName::Pair(left, _), MapName::Right(_)) => play_right::<Clearance, Cleared>(
-            heap, paper, map, left,
-        ),
-        _ => play_map::<Clearance, Flag, Cleared>(heap, paper, &map),
-    }
-}
-
-fn play_under<'a>(heap: Global, paper: &Paper<'a>, at: u8) -> Result<String, Failure<'a>> {
-    let Some(map) = Under::new(at) else {
-        return Err(no_map());
-    };
-    match (paper.kind, paper.map) {
-        (KindName::Pair(_, right), MapName::Left(_)) => play_left::<Condition, Under>(
-            heap, paper, map, right,
-        ),
-        (KindName::Pair(left, _), MapName::Right(_)) => play_right::<Condition, Under>(
-            heap, paper, map, left,
-        ),
-        _ => play_map::<Condition, Flag, Under>(heap, paper, &map),
-    }
-}
-
-fn play_simple<'a>(heap: Global, paper: &Paper<'a>, map: SimpleMap) -> Result<String, Failure<'a>> {
-    match map {
-        SimpleMap::Present => play_present(heap, paper),
-        SimpleMap::Cleared(from) => play_cleared(heap, paper, from),
-        SimpleMap::Under(at) => play_under(heap, paper, at),
+    // Plays a paper of pairs whose left half is of the kind L.
+    fn left<L: Simple>(&self, right: SimpleKind) -> Result<String, Failure<'a>> {
+        match right {
+            SimpleKind::Flag => self.pair::<L, Flag>(),
+            SimpleKind::Count => self.pair::<L, Count>(),
+            SimpleKind::Clearance => self.pair::<L, Clearance>(),
+            SimpleKind::Condition => self.pair::<L, Condition>(),
+        }
     }
 }
 
 /// Reads a paper and plays it: what it did in words, or what is wrong with the paper.
 pub fn play<'a>(heap: Global, text: &'a [u8]) -> Result<String, Failure<'a>> {
     let paper = read_paper(heap, text)?;
-    match (paper.kind, paper.map) {
-        (_, MapName::Direct(map)) => play_simple(heap, &paper, map),
-        (_, MapName::Left(Some(map))) => play_simple(heap, &paper, map),
-        (_, MapName::Right(Some(map))) => play_simple(heap, &paper, map),
-        (KindName::Pair(left, right), MapName::Left(None)) => play_halves(
-            heap, &paper, left, right, true,
-        ),
-        (KindName::Pair(left, right), MapName::Right(None)) => play_halves(
-            heap, &paper, left, right, false,
-        ),
-        (KindName::Simple(_), MapName::Left(None)) => Err(no_map()),
-        (KindName::Simple(_), MapName::Right(None)) => Err(no_map()),
+    let kind = paper.kind;
+    let player = Player { heap, paper };
+    match kind {
+        KindName::Simple(SimpleKind::Flag) => player.simple::<Flag>(),
+        KindName::Simple(SimpleKind::Count) => player.simple::<Count>(),
+        KindName::Simple(SimpleKind::Clearance) => player.simple::<Clearance>(),
+        KindName::Simple(SimpleKind::Condition) => player.simple::<Condition>(),
+        KindName::Pair(SimpleKind::Flag, right) => player.left::<Flag>(right),
+        KindName::Pair(SimpleKind::Count, right) => player.left::<Count>(right),
+        KindName::Pair(SimpleKind::Clearance, right) => player.left::<Clearance>(right),
+        KindName::Pair(SimpleKind::Condition, right) => player.left::<Condition>(right),
     }
 }
