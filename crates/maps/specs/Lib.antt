@@ -1,2 +1,3 @@
 -- Definitions on maps between kinds.
 pub mod Maps
+pub mod MapLaws
