@@ -1,6 +1,7 @@
 -- A good reading is of a document's own bytes: nothing else reads as it.
 use Rattle.std.proofs.Common.{◌≡◌, ℕ, zero, suc, ◌+◌, ◌-◌, ◌<◌, ◌≤◌, ltb, List, [], ◌∷◌, length, drop, Ok, Err, sym, ap, ◌∙◌, subst, arith, drop_of_length-le}
 use Rattle.std.proofs.lemmas.Bool.{ltb-false}
+use Rattle.std.proofs.lemmas.List.{drop_more}
 use Rattle.formats.specs.declared.refusals.Refusal.TheVariants.{TooLong, BytesLeft}
 use Rattle.formats.specs.declared.events.Event.{Event}
 use Rattle.formats.specs.declared.events.Event.TheVariants.{Opens, Closes, Ends}
@@ -11,7 +12,7 @@ use Rattle.formats.specs.Writing.{two_bytes, write_tree, write_forest, write_doc
 use Rattle.formats.specs.Laws.{DocumentsExact}
 use Rattle.formats.proofs.Readings.{passed, then_ok}
 use Rattle.formats.proofs.ReadBack.{beside_empty, beside_last}
-use Rattle.formats.proofs.Exact.{drop_byte, drop_word, word_small}
+use Rattle.formats.proofs.Exact.{drop_word, word_small}
 
 abbrev got : {X : Type 0} → X → Reading X → X
 got d (Ok x) = x
@@ -53,7 +54,7 @@ module _ (bytes : List ℕ) (items : ℕ) (small : (i : ℕ) → byte bytes i < 
       let e5 : at + 3 + 2 ≡ at + 5 = omega arith in
       let u : drop (at + 3) bytes ≡ two_bytes (word bytes (at + 3)) xs = drop_word bytes small (at + 3) (omega arith) ∙ ap (two_bytes (word bytes (at + 3))) (ap (λ p. drop p bytes) e5 ∙ d) in
       let v : drop (at + 1) bytes ≡ two_bytes (word bytes (at + 1)) (two_bytes (word bytes (at + 3)) xs) = drop_word bytes small (at + 1) (omega arith) ∙ ap (two_bytes (word bytes (at + 1))) (ap (λ p. drop p bytes) e3 ∙ u) in
-      drop_byte bytes small at (omega arith) ∙ ap (λ x. x ∷ drop (at + 1) bytes) b ∙ ap (λ xs. 0x10 ∷ xs) v
+      drop_more bytes at 0 (omega arith) ∙ ap (λ x. x ∷ drop (at + 1) bytes) b ∙ ap (λ xs. 0x10 ∷ xs) v
 
   spelt_tree : (at l i : ℕ) (xs : List ℕ) → byte bytes at ≡ 0x10 → at + 5 ≤ length bytes → l ≡ word bytes (at + 1) → i ≡ word bytes (at + 3) → drop (at + 5) bytes ≡ xs
       → drop at bytes ≡ 0x10 ∷ two_bytes l (two_bytes i xs)
@@ -74,7 +75,7 @@ module _ (bytes : List ℕ) (items : ℕ) (small : (i : ℕ) → byte bytes i < 
       let c = closes at (length (o ∷ outer)) e in (
         empty,
         at + 1,
-        drop_byte bytes small at c.1 ∙ ap (λ x. x ∷ drop (at + 1) bytes) c.0,
+        drop_more bytes at 0 c.1 ∙ ap (λ x. x ∷ drop (at + 1) bytes) c.0,
         tt,
         subst (λ (x : Forest ℕ). Rest outer (closed o x) g (at + 1)) (sym (beside_empty here)) (inner (at + 1) outer (closed o here) g k),
       )
@@ -82,7 +83,7 @@ module _ (bytes : List ℕ) (items : ℕ) (small : (i : ℕ) → byte bytes i < 
       let c = ends at 0 e in
       let f = passed (ltb (at + 1) (length bytes)) BytesLeft (at + 1) (Ok here) g k in (
         empty,
-        drop_byte bytes small at c.1 ∙ ap (λ x. x ∷ drop (at + 1) bytes) c.0 ∙ ap (λ xs. 0x1F ∷ xs) (drop_of_length-le bytes (ltb-false (at + 1) (length bytes) f.0)),
+        drop_more bytes at 0 c.1 ∙ ap (λ x. x ∷ drop (at + 1) bytes) c.0 ∙ ap (λ xs. 0x1F ∷ xs) (drop_of_length-le bytes (ltb-false (at + 1) (length bytes) f.0)),
         sym (ap (got g) f.1) ∙ sym (beside_empty here),
         tt,
       )

@@ -1,7 +1,8 @@
 -- A good reading is of a query's own bytes: nothing else reads as it.
-use Rattle.std.proofs.Common.{◌≡◌, ℕ, zero, suc, ◌+◌, ◌-◌, ◌*◌, ◌/◌, ◌%◌, ◌<◌, ◌≤◌, Bool, true, false, cond, ◌&&◌, eqb, ltb, leb, List, [], ◌∷◌, length, drop, Some, None, Ok, Err, Option, sym, refl, ap, ◌∙◌, mul_comm, add-one, sub-one, arith, drop_of_length-le, drop-cons}
+use Rattle.std.proofs.Common.{◌≡◌, ℕ, zero, suc, ◌+◌, ◌-◌, ◌*◌, ◌/◌, ◌%◌, ◌<◌, ◌≤◌, Bool, true, false, cond, ◌&&◌, eqb, ltb, leb, List, [], ◌∷◌, length, drop, Some, None, Ok, Err, Option, sym, refl, ap, ◌∙◌, mul_comm, sub-one, arith, drop_of_length-le}
 use lib.Arith.{digits_div, digits_mod}
 use Rattle.std.proofs.lemmas.Bool.{leb-false, ltb-false, eqb-true}
+use Rattle.std.proofs.lemmas.List.{drop_more}
 use Rattle.formats.specs.declared.commands.Command.{Command}
 use Rattle.formats.specs.declared.commands.Command.TheVariants.{Nothing, Document, Single, Held, Union, Scale, Make, Named, Child, Below, Only, For, Let, IfName, Alike}
 use Rattle.formats.specs.declared.commands.Sort.TheVariants.{OfTree, OfForest}
@@ -62,9 +63,6 @@ got d (Ok x) = x
 got d (Err f) = d
 
 module _ (bytes : List ℕ) (small : (i : ℕ) → byte bytes i < 256) where
-  pub drop_byte : (p : ℕ) → p < length bytes → drop p bytes ≡ byte bytes p ∷ drop (p + 1) bytes
-  drop_byte p h = rw (add-one p) (drop-cons bytes p 0 h)
-
   pub word_small : (p : ℕ) → word bytes p < 65536
   word_small p = omega (arith, small p, small (p + 1))
 
@@ -74,18 +72,18 @@ module _ (bytes : List ℕ) (small : (i : ℕ) → byte bytes i < 256) where
       let b : (256 * byte bytes p + byte bytes (p + 1)) % 256 ≡ byte bytes (p + 1) = rw (mul_comm 256 (byte bytes p)) (digits_mod (byte bytes p) (small (p + 1))) in
       let e : p + 1 + 1 ≡ p + 2 = omega arith in
       let l : p < length bytes = omega arith in
-      let d : drop p bytes ≡ byte bytes p ∷ byte bytes (p + 1) ∷ drop (p + 2) bytes = drop_byte p l ∙ ap (λ xs. byte bytes p ∷ xs) (drop_byte (p + 1) h ∙ ap (λ k. byte bytes (p + 1) ∷ drop k bytes) e) in
+      let d : drop p bytes ≡ byte bytes p ∷ byte bytes (p + 1) ∷ drop (p + 2) bytes = drop_more bytes p 0 l ∙ ap (λ xs. byte bytes p ∷ xs) (drop_more bytes (p + 1) 0 h ∙ ap (λ k. byte bytes (p + 1) ∷ drop k bytes) e) in
       rw (a, b) d
 
   module _ (at x : ℕ) (is : byte bytes at ≡ x) where
     spelt_none : at + 1 + 0 ≤ length bytes → drop at bytes ≡ x ∷ drop (at + 1 + 0) bytes
-    spelt_none h = let e : at + 1 + 0 ≡ at + 1 = omega arith in rw (e, sym is) (drop_byte at (omega arith))
+    spelt_none h = let e : at + 1 + 0 ≡ at + 1 = omega arith in rw (e, sym is) (drop_more bytes at 0 (omega arith))
 
     spelt_byte : at + 1 + 1 ≤ length bytes → drop at bytes ≡ x ∷ byte bytes (at + 1) ∷ drop (at + 1 + 1) bytes
-    spelt_byte h = rw (sym is) (drop_byte at (omega arith) ∙ ap (λ xs. byte bytes at ∷ xs) (drop_byte (at + 1) (omega arith)))
+    spelt_byte h = rw (sym is) (drop_more bytes at 0 (omega arith) ∙ ap (λ xs. byte bytes at ∷ xs) (drop_more bytes (at + 1) 0 (omega arith)))
 
     spelt_word : at + 1 + 2 ≤ length bytes → drop at bytes ≡ x ∷ two_bytes (word bytes (at + 1)) (drop (at + 1 + 2) bytes)
-    spelt_word h = rw (sym is) (drop_byte at (omega arith) ∙ ap (λ xs. byte bytes at ∷ xs) (drop_word (at + 1) (omega arith)))
+    spelt_word h = rw (sym is) (drop_more bytes at 0 (omega arith) ∙ ap (λ xs. byte bytes at ∷ xs) (drop_word (at + 1) (omega arith)))
 
     spelt_name : at + 1 + 3 ≤ length bytes → drop at bytes ≡ x ∷ byte bytes (at + 1) ∷ two_bytes (word bytes (at + 2)) (drop (at + 1 + 3) bytes)
     spelt_name h =
@@ -98,7 +96,7 @@ module _ (bytes : List ℕ) (small : (i : ℕ) → byte bytes i < 256) where
     spelt_two h =
         let e : at + 1 + 1 ≡ at + 2 = omega arith in
         let k : at + 2 + 1 ≡ at + 1 + 2 = omega arith in
-        let d : drop (at + 1 + 1) bytes ≡ byte bytes (at + 2) ∷ drop (at + 1 + 2) bytes = ap (λ p. drop p bytes) e ∙ drop_byte (at + 2) (omega arith) ∙ ap (λ p. byte bytes (at + 2) ∷ drop p bytes) k in
+        let d : drop (at + 1 + 1) bytes ≡ byte bytes (at + 2) ∷ drop (at + 1 + 2) bytes = ap (λ p. drop p bytes) e ∙ drop_more bytes (at + 2) 0 (omega arith) ∙ ap (λ p. byte bytes (at + 2) ∷ drop p bytes) k in
         spelt_byte (omega arith) ∙ ap (λ xs. x ∷ byte bytes (at + 1) ∷ xs) d
 
   abbrev pub Spelt : ℕ → Sorts → ℕ → Read → Type 0
