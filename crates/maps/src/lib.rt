@@ -31,6 +31,11 @@ pub trait Map<K: Kind, L: Kind> {
     ghost keeps: { (m : Self) → Mapping K.ring L.ring K.means L.means (image m) };
 }
 
+/// Every map gives each annotation one image, and keeps zero, one, plus and times.
+pub fn homomorphism<K: Kind, L: Kind, M: Map<K, L>>(m: &M)
+    ensures { Mapping K.ring L.ring K.means L.means (M.image m.now) }
+{}
+
 /// Whether a count is above 0.
 #[derive(Clone, Copy, Debug)]
 pub struct Present;

@@ -1,5 +1,7 @@
 // Annotations as a paper writes them: a number, or two with a comma between them for a pair.
-ghost use Rattle.std.specs.Prelude.{◌≡◌, ℕ, min, List, ◌∷◌, ◌++◌, IfOk, MatchResult};
+ghost use Rattle.std.specs.Prelude.{◌≡◌, ◌≢◌, ℕ, min, List, ◌∷◌, ◌++◌, IfOk, MatchOption, MatchResult};
+ghost use Rattle.grammar.specs.declared.names.SimpleMap.{SimpleMap as OneMap};
+ghost use Rattle.grammar.specs.declared.names.SimpleMap.TheVariants.{Present as CalledPresent, Cleared as CalledCleared, Under as CalledUnder};
 ghost use Rattle.truth_tables.specs.Tables.{code, function};
 ghost use Rattle.kinds.specs.Flags.{flag_code};
 ghost use Rattle.kinds.specs.Clearances.{rank};
@@ -45,7 +47,7 @@ pub enum NoMap {}
 
 /// The annotation whose code the word writes; a mistake at the word where it writes none.
 pub fn coded_item<'a, K: Coded>(word: Word<'a>, kind: SimpleKind) -> Result<K, Mistake<'a>>
-    ensures { MatchResult result (λ v. Spells (K.Coded.number v) (word_bytes word.entry)) (λ e. (e.place ≡ word.entry.place) × ((v : K) → Spells (K.Coded.number v) (word_bytes word.entry) → ⊥)) }
+    ensures { MatchResult result (λ v. Spells (K.number v) (word_bytes word.entry)) (λ e. (e.place ≡ word.entry.place) × ((v : K) → Spells (K.number v) (word_bytes word.entry) → ⊥)) }
 {
     let Some(code) = number(word.text) else {
         return Err(Mistake::at(word, Expected::Item(kind)));
@@ -62,19 +64,19 @@ impl Item for Flag {
 }
 
 impl Map<Flag, Flag> for NoMap {
-    ghost image = { λ m x. x };
+    ghost image = { λ _ x. x };
 
-    fn map(&self, x: Flag) -> Flag {
-        match *self {}
-    }
+    ghost keeps = { λ m. elim m [ ] };
 
-    fn homomorphism(&self) {
+    fn map(&self, _x: Flag) -> Flag {
         match *self {}
     }
 }
 
 impl Simple for Flag {
     type ToFlag = NoMap;
+
+    ghost called = { λ m. elim m [ ] };
 
     fn to_flag(_map: SimpleMap) -> Option<NoMap> {
         None
@@ -91,6 +93,8 @@ impl Item for Count {
 
 impl Simple for Count {
     type ToFlag = Present;
+
+    ghost called = { λ _. CalledPresent };
 
     fn to_flag(map: SimpleMap) -> Option<Present> {
         match map {
@@ -111,6 +115,8 @@ impl Item for Clearance {
 impl Simple for Clearance {
     type ToFlag = Cleared;
 
+    ghost called = { λ m. CalledCleared (rank m.from) };
+
     fn to_flag(map: SimpleMap) -> Option<Cleared> {
         match map {
             SimpleMap::Cleared(from) => Cleared::new(from),
@@ -130,6 +136,8 @@ impl Item for Condition {
 impl Simple for Condition {
     type ToFlag = Under;
 
+    ghost called = { λ m. CalledUnder m.at };
+
     fn to_flag(map: SimpleMap) -> Option<Under> {
         match map {
             SimpleMap::Under(at) => Under::new(at),
@@ -139,7 +147,7 @@ impl Simple for Condition {
 }
 
 impl<L: Item, R: Item> Item for Pair<L, R> {
-    ghost written = { λ bs p. (l : List ℕ) × (r : List ℕ) × (bs ≡ l ++ (44 ∷ r)) × L.Item.written l p.left × R.Item.written r p.right };
+    ghost written = { λ bs p. (l : List ℕ) × (r : List ℕ) × (bs ≡ l ++ (44 ∷ r)) × L.written l p.left × R.written r p.right };
 
     fn read_item<'a>(word: Word<'a>) -> Result<Pair<L, R>, Mistake<'a>> {
         match at_comma(word) {

@@ -3,4 +3,3 @@
 
 pub mod items;
 pub mod play;
-pub mod wording;

@@ -72,7 +72,6 @@ pub fn coarsen<K: Kind, L: Kind, M: Map<K, L>>(
     ensures products { IfOk result (λ c. JoinsBothWays K.means L.means (M.image m.now) (product K.ring) (product L.ring) row.now c.product) }
     ensures agree { IfOk result (λ c. c.agree ≡ true) }
 {
-    m.homomorphism();
     let images = map_row(heap, m, row)?;
     let sum = BothWays::new(m, sum_row(row), sum_row(&images));
     let product = BothWays::new(m, multiply_row(row), multiply_row(&images));
