@@ -35,10 +35,14 @@ pub trait Item: Kind + Display {
 
 /// A kind without halves, and its map to flags.
 pub trait Simple: Item {
-    type ToFlag: Map<Self, Flag>;
+    type ToFlag: Map<Self, Flag> + Drop;
 
-    /// The map that a paper names so, where it starts at this kind and has its number within its bounds.
-    fn to_flag(map: SimpleMap) -> Option<Self::ToFlag>;
+    // What a paper calls a map.
+    ghost called: { Self.ToFlag → OneMap };
+
+    /// The map that a paper calls so, where it starts at this kind and has its number within its bounds.
+    fn to_flag(map: SimpleMap) -> Option<Self::ToFlag>
+        ensures { MatchOption result ((m : Self.ToFlag) → called m ≢ map) (λ m. called m ≡ map) };
 }
 
 /// No map starts at flags.
@@ -49,10 +53,9 @@ pub enum NoMap {}
 pub fn coded_item<'a, K: Coded>(word: Word<'a>, kind: SimpleKind) -> Result<K, Mistake<'a>>
     ensures { MatchResult result (λ v. Spells (K.number v) (word_bytes word.entry)) (λ e. (e.place ≡ word.entry.place) × ((v : K) → Spells (K.number v) (word_bytes word.entry) → ⊥)) }
 {
-    let Some(code) = number(word.text) else {
-        return Err(Mistake::at(word, Expected::Item(kind)));
-    };
-    K::read(code).ok_or(Mistake::at(word, Expected::Item(kind)))
+    let mistake = Mistake::at(word, Expected::Item(kind));
+    let code = number(word.text).ok_or(mistake)?;
+    K::read(code).ok_or(mistake)
 }
 
 impl Item for Flag {
@@ -150,13 +153,9 @@ impl<L: Item, R: Item> Item for Pair<L, R> {
     ghost written = { λ bs p. (l : List ℕ) × (r : List ℕ) × (bs ≡ l ++ (44 ∷ r)) × L.written l p.left × R.written r p.right };
 
     fn read_item<'a>(word: Word<'a>) -> Result<Pair<L, R>, Mistake<'a>> {
-        match at_comma(word) {
-            Some((left, right)) => {
-                let left = L::read_item(left)?;
-                let right = R::read_item(right)?;
-                Ok(Pair { left, right })
-            }
-            None => Err(Mistake::at(word, Expected::PairItem)),
-        }
+        let (left, right) = at_comma(word).ok_or(Mistake::at(word, Expected::PairItem))?;
+        let left = L::read_item(left)?;
+        let right = R::read_item(right)?;
+        Ok(Pair { left, right })
     }
 }

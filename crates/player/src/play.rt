@@ -92,7 +92,9 @@ impl<'a> Player<'a> {
     // Plays a paper of the simple kind K.
     fn simple<K: Simple>(&self) -> Result<String, Failure<'a>> {
         match self.paper.map {
-            MapName::Direct(map) => self.under::<K, Flag, K::ToFlag>(&K::to_flag(map).ok_or(no_map())?),
+            MapName::Direct(map) => self.under::<K, Flag, K::ToFlag>(&K::to_flag(map).ok_or(
+                no_map(),
+            )?),
             _ => Err(Failure::Mistake(no_map())),
         }
     }
@@ -103,11 +105,17 @@ impl<'a> Player<'a> {
             MapName::Left(None) => self.under::<Pair<L, R>, L, Left>(&Left),
             MapName::Right(None) => self.under::<Pair<L, R>, R, Right>(&Right),
             MapName::Left(Some(then)) => {
-                let map: Chain<Left, L::ToFlag, L> = Chain::new(Left, L::to_flag(then).ok_or(no_map())?);
+                let map: Chain<Left, L::ToFlag, L> = Chain::new(
+                    Left,
+                    L::to_flag(then).ok_or(no_map())?,
+                );
                 self.under::<Pair<L, R>, Flag, Chain<Left, L::ToFlag, L>>(&map)
             }
             MapName::Right(Some(then)) => {
-                let map: Chain<Right, R::ToFlag, R> = Chain::new(Right, R::to_flag(then).ok_or(no_map())?);
+                let map: Chain<Right, R::ToFlag, R> = Chain::new(
+                    Right,
+                    R::to_flag(then).ok_or(no_map())?,
+                );
                 self.under::<Pair<L, R>, Flag, Chain<Right, R::ToFlag, R>>(&map)
             }
             MapName::Direct(_) => Err(Failure::Mistake(no_map())),
