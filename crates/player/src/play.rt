@@ -91,32 +91,27 @@ impl<'a> Player<'a> {
 
     // Plays a paper of the simple kind K.
     fn simple<K: Simple>(&self) -> Result<String, Failure<'a>> {
-        match self.paper.map {
-            MapName::Direct(map) => self.under::<K, Flag, K::ToFlag>(&K::to_flag(map).ok_or(
-                no_map(),
-            )?),
-            _ => Err(Failure::Mistake(no_map())),
-        }
+        let MapName::Direct(map) = self.paper.map else {
+            return Err(Failure::Mistake(no_map()));
+        };
+        let map = K::to_flag(map).ok_or(no_map())?;
+        self.under::<K, Flag, _>(&map)
     }
 
     // Plays a paper of pairs of L and R.
     fn pair<L: Simple, R: Simple>(&self) -> Result<String, Failure<'a>> {
         match self.paper.map {
-            MapName::Left(None) => self.under::<Pair<L, R>, L, Left>(&Left),
-            MapName::Right(None) => self.under::<Pair<L, R>, R, Right>(&Right),
+            MapName::Left(None) => self.under::<Pair<L, R>, L, _>(&Left),
+            MapName::Right(None) => self.under::<Pair<L, R>, R, _>(&Right),
             MapName::Left(Some(then)) => {
-                let map: Chain<Left, L::ToFlag, L> = Chain::new(
-                    Left,
-                    L::to_flag(then).ok_or(no_map())?,
-                );
-                self.under::<Pair<L, R>, Flag, Chain<Left, L::ToFlag, L>>(&map)
+                let then = L::to_flag(then).ok_or(no_map())?;
+                let map: Chain<Left, L::ToFlag, L> = Chain::new(Left, then);
+                self.under::<Pair<L, R>, Flag, _>(&map)
             }
             MapName::Right(Some(then)) => {
-                let map: Chain<Right, R::ToFlag, R> = Chain::new(
-                    Right,
-                    R::to_flag(then).ok_or(no_map())?,
-                );
-                self.under::<Pair<L, R>, Flag, Chain<Right, R::ToFlag, R>>(&map)
+                let then = R::to_flag(then).ok_or(no_map())?;
+                let map: Chain<Right, R::ToFlag, R> = Chain::new(Right, then);
+                self.under::<Pair<L, R>, Flag, _>(&map)
             }
             MapName::Direct(_) => Err(Failure::Mistake(no_map())),
         }
