@@ -33,5 +33,5 @@ returns-in-Some-default c =
 
 pub returns-in-None-default : goal.returns-in-None-default
 returns-in-None-default c =
-    let none = MatchOption-at_none _ _ c.in-None-default.is-0 c.map_word.ensures in
+    let none = MatchOption-at_none _ _ c.in-None-default.is-0 c.named.ensures in
     no_half_map _ c.in_ok-word.ensures (none MapWord.Left) (none MapWord.Right) c.in-None-default.not-Simple-1

@@ -9,4 +9,4 @@ pub returns-in_err-assignment-in-Some-Under-Condition : goal.returns-in_err-assi
 returns-in_err-assignment-in-Some-Under-Condition c = let k = c.in-Some-Under-Condition.is-1 in rw k (broke _ _ _ c.from_residual-in_err-assignment-in-Some-Under-Condition.ensures.0 (no_under c.args.word c.in_err-assignment-in-Some-Under-Condition.ensures))
 
 pub returns-in-None-default : goal.returns-in-None-default
-returns-in-None-default c = no_simple _ c.args.word _ (MatchOption-at_none _ _ c.in-None-default.is-0 c.map_word.ensures)
+returns-in-None-default c = no_simple _ c.args.word _ (MatchOption-at_none _ _ c.in-None-default.is-0 c.named.ensures)
