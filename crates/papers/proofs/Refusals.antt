@@ -1,5 +1,5 @@
 -- What no line says: where a word is missing or another stands, no kind and no map is read.
-use Rattle.std.proofs.Common.{MatchOption, ◌≡◌, ℕ, ◌^◌, ◌<◌, ◌≤◌, true, ◌⊎◌, List, get_or, is_err, Some, None, codes, Option, Result, sym, refl, ap, ◌∙◌, subst, inl, inr, arith}
+use Rattle.std.proofs.Common.{MatchOption, MatchResult, Ok, Err, ◌≡◌, ℕ, ◌^◌, ◌<◌, ◌≤◌, true, ◌⊎◌, List, get_or, is_err, Some, None, codes, Option, Result, sym, refl, ap, ◌∙◌, subst, inl, inr, arith}
 use Rattle.std.proofs.lemmas.Result.{MatchResult-from_err}
 use Rattle.std.specs.Option.{ok_or, SomeIff}
 use Rattle.text.specs.declared.words.Word.{Word}
@@ -27,6 +27,11 @@ broke {X} r q R e h = MatchResult-from_err r (λ x. R x q) (λ _. (x : X) (s : P
 pub from_option : {X E : Type 0} (r : Result X E) (q : Point) (R : X → Point → Type 0) (o : Option X) (e : E) (N : Type 0) (P : X → Type 0) → r ≡ ok_or o e → MatchOption o N P → ((x : X) → P x → R x q) → (N → (x : X) (s : Point) → R x s → ⊥) → Told r q R
 from_option r q R None e N P is h some none = subst (λ t. Told t q R) (sym is) (none h)
 from_option r q R (Some x) e N P is h some none = subst (λ t. Told t q R) (sym is) (some x h)
+
+-- what `map` makes of a result
+pub mapped : {X Y E : Type 0} (f : X → Y) (r : Result X E) (s : Result Y E) (q : Point) (R : X → Point → Type 0) (S : Y → Point → Type 0) → MatchResult r (λ x. s ≡ Ok (f x)) (λ e. s ≡ Err e) → Told r q R → ((x : X) → R x q → S (f x) q) → (((x : X) (t : Point) → R x t → ⊥) → (y : Y) (t : Point) → S y t → ⊥) → Told s q S
+mapped f (Ok x) s q R S is h some none = subst (λ t. Told t q S) (sym is) (some x h)
+mapped f (Err e) s q R S is h some none = subst (λ t. Told t q S) (sym is) (none h)
 
 -- the number v where P holds, narrowed to where Q holds too
 pub narrowed : (P : Type 0) (Q : ℕ → Type 0) (v : ℕ) (a b : Option ℕ) → SomeIff a P v → MatchOption a (b ≡ None) (λ n. SomeIff b (Q n) n) → SomeIff b (P × Q v) v
@@ -125,6 +130,15 @@ module _ {p : Point} (k : SimpleKind) where
   pub no_then : {r : Point} {w : Word} → WordNext p w r → (word_bytes w ≡ codes "then" → ⊥) → (o : Option SimpleMap) (q : Point) → ThenFits k p o q → ⊥
   no_then next nt None q s = not_both s.0.0 next
   no_then next nt (Some m) q s = nt ((one_word next s.0.1.1).0 ∙ s.0.1.2)
+
+module _ {p t : Point} {w : Word} (l r : SimpleKind) where
+  pub left_fits : WordNext p w t → word_bytes w ≡ codes "left" → (o : Option SimpleMap) (q : Point) → ThenFits l t o q → MapFits (Pair l r) p (Left o) q
+  left_fits next is None q h = ((t, (w, next, is), h.0), (l, r, refl), tt)
+  left_fits next is (Some m) q h = ((t, (w, next, is), h.0), (r, ap (λ k. Pair k r) (sym h.1.0)), h.1.1)
+
+  pub right_fits : WordNext p w t → word_bytes w ≡ codes "right" → (o : Option SimpleMap) (q : Point) → ThenFits r t o q → MapFits (Pair l r) p (Right o) q
+  right_fits next is None q h = ((t, (w, next, is), h.0), (l, r, refl), tt)
+  right_fits next is (Some m) q h = ((t, (w, next, is), h.0), (l, ap (Pair l) (sym h.1.0)), h.1.1)
 
 module _ {p : Point} where
   pub no_map_word : (k : KindName) → ((w : Word) (s : Point) → WordNext p w s → ⊥) → (m : MapName) (q : Point) → MapFits k p m q → ⊥

@@ -140,12 +140,10 @@ fn simple_map<'a>(
     match (named(word.text), kind) {
         (Some(MapWord::Present), SimpleKind::Count) => Ok(SimpleMap::Present),
         (Some(MapWord::Cleared), SimpleKind::Clearance) => {
-            let clearance = number_within(reader, 1, 4, Expected::Clearance)?;
-            Ok(SimpleMap::Cleared(clearance))
+            number_within(reader, 1, 4, Expected::Clearance).map(SimpleMap::Cleared)
         }
         (Some(MapWord::Under), SimpleKind::Condition) => {
-            let assignment = number_within(reader, 0, 63, Expected::Assignment)?;
-            Ok(SimpleMap::Under(assignment))
+            number_within(reader, 0, 63, Expected::Assignment).map(SimpleMap::Under)
         }
         (Some(other), _) => Err(misfit(word, other, part, KindName::Simple(kind))),
         (None, _) => Err(Mistake::at(word, map_of(part))),
@@ -183,8 +181,7 @@ fn then<'a>(
     };
     if then.text == b"then".as_slice() {
         let word = next(reader, Expected::MapOfHalf)?;
-        let map = simple_map(reader, word, part, half)?;
-        return Ok(Some(map));
+        return simple_map(reader, word, part, half).map(Some);
     }
     Err(Mistake::at(then, Expected::Then))
 }
@@ -195,22 +192,15 @@ fn map<'a>(reader: &mut Reader<'a>, kind: KindName) -> Result<MapName, Mistake<'
 {
     let word = next(reader, Expected::Map)?;
     match (named(word.text), kind) {
-        (_, KindName::Simple(simple)) => Ok(MapName::Direct(simple_map(
-            reader,
-            word,
-            Part::Whole,
-            simple,
-        )?)),
-        (Some(MapWord::Left), KindName::Pair(left, _)) => Ok(MapName::Left(then(
-            reader,
-            Part::LeftHalf,
-            left,
-        )?)),
-        (Some(MapWord::Right), KindName::Pair(_, right)) => Ok(MapName::Right(then(
-            reader,
-            Part::RightHalf,
-            right,
-        )?)),
+        (_, KindName::Simple(simple)) => {
+            simple_map(reader, word, Part::Whole, simple).map(MapName::Direct)
+        }
+        (Some(MapWord::Left), KindName::Pair(left, _)) => {
+            then(reader, Part::LeftHalf, left).map(MapName::Left)
+        }
+        (Some(MapWord::Right), KindName::Pair(_, right)) => {
+            then(reader, Part::RightHalf, right).map(MapName::Right)
+        }
         (Some(other), _) => Err(misfit(word, other, Part::Whole, kind)),
         (None, _) => Err(Mistake::at(word, Expected::Map)),
     }
