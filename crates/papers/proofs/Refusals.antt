@@ -1,6 +1,7 @@
 -- What no line says: where a word is missing or another stands, no kind and no map is read.
-use Rattle.std.proofs.Common.{◌≡◌, ℕ, ◌^◌, ◌<◌, ◌≤◌, true, ◌⊎◌, List, get_or, is_err, Some, None, codes, Option, Result, sym, refl, ap, ◌∙◌, subst, inl, inr, arith}
+use Rattle.std.proofs.Common.{MatchOption, MatchResult, Ok, Err, ◌≡◌, ℕ, ◌^◌, ◌<◌, ◌≤◌, true, ◌⊎◌, List, get_or, is_err, Some, None, codes, Option, Result, sym, refl, ap, ◌∙◌, subst, inl, inr, arith}
 use Rattle.std.proofs.lemmas.Result.{MatchResult-from_err}
+use Rattle.std.specs.Option.{ok_or, SomeIff}
 use Rattle.text.specs.declared.words.Word.{Word}
 use Rattle.grammar.specs.declared.names.SimpleKind.{SimpleKind}
 use Rattle.grammar.specs.declared.names.SimpleKind.TheVariants.{Flag, Count, Clearance, Condition}
@@ -21,6 +22,23 @@ use Rattle.text.proofs.Single.{one_word, not_both, one_first}
 -- the exit of a `?`
 pub broke : {X E : Type 0} (r : Result X E) (q : Point) (R : X → Point → Type 0) → is_err r ≡ true → ((x : X) (s : Point) → R x s → ⊥) → Told r q R
 broke {X} r q R e h = MatchResult-from_err r (λ x. R x q) (λ _. (x : X) (s : Point) → R x s → ⊥) e (λ _. h)
+
+-- what `ok_or` makes of an option
+pub from_option : {X E : Type 0} (r : Result X E) (q : Point) (R : X → Point → Type 0) (o : Option X) (e : E) (N : Type 0) (P : X → Type 0) → r ≡ ok_or o e → MatchOption o N P → ((x : X) → P x → R x q) → (N → (x : X) (s : Point) → R x s → ⊥) → Told r q R
+from_option r q R None e N P is h some none = subst (λ t. Told t q R) (sym is) (none h)
+from_option r q R (Some x) e N P is h some none = subst (λ t. Told t q R) (sym is) (some x h)
+
+-- what `map` makes of a result
+pub mapped : {X Y E : Type 0} (f : X → Y) (r : Result X E) (s : Result Y E) (q : Point) (R : X → Point → Type 0) (S : Y → Point → Type 0) → MatchResult r (λ x. s ≡ Ok (f x)) (λ e. s ≡ Err e) → Told r q R → ((x : X) → R x q → S (f x) q) → (((x : X) (t : Point) → R x t → ⊥) → (y : Y) (t : Point) → S y t → ⊥) → Told s q S
+mapped f (Ok x) s q R S is h some none = subst (λ t. Told t q S) (sym is) (some x h)
+mapped f (Err e) s q R S is h some none = subst (λ t. Told t q S) (sym is) (none h)
+
+-- the number v where P holds, narrowed to where Q holds too
+pub narrowed : (P : Type 0) (Q : ℕ → Type 0) (v : ℕ) (a b : Option ℕ) → SomeIff a P v → MatchOption a (b ≡ None) (λ n. SomeIff b (Q n) n) → SomeIff b (P × Q v) v
+narrowed P Q v None None h f = λ k. h k.0
+narrowed P Q v None (Some y) h f = absurd cc
+narrowed P Q v (Some x) None h f = λ k. f (subst Q (sym h.1) k.1)
+narrowed P Q v (Some x) (Some y) h f = ((h.0, subst Q h.1 f.0), f.1 ∙ h.1)
 
 pub said : {p q : Point} {w : Word} (bs : List ℕ) → WordNext p w q → word_bytes w ≡ bs → Says p bs q
 said {w = w} bs next e = (w, next, e)
@@ -63,16 +81,12 @@ module _ {p : Point} where
   no_kind next np nk (Simple k) q s = nk k ((one_word next s.1).0 ∙ s.2)
   no_kind next np nk (Pair a b) q s = np ((one_word next s.2.1).0 ∙ s.2.2)
 
-  pub no_number : {r : Point} {w : Word} (low high : ℕ) → WordNext p w r → high < 2 ^ 64 → (Writes (word_bytes w) × (value_of (word_bytes w) < 2 ^ 64) → ⊥) → (n : ℕ) (q : Point) → WithinNext low high p n q → ⊥
-  no_number {w = w} low high next small none n q s =
+  pub number_told : {r : Point} {w : Word} (low high : ℕ) (o : Option ℕ) → WordNext p w r → high < 256 → SomeIff o (((Writes (word_bytes w) × (value_of (word_bytes w) < 2 ^ 64)) × (value_of (word_bytes w) < 256)) × ((low ≤ value_of (word_bytes w)) × (value_of (word_bytes w) ≤ high))) (value_of (word_bytes w)) → MatchOption o ((n : ℕ) (q : Point) → WithinNext low high p n q → ⊥) (λ n. WithinNext low high p n r)
+  number_told {w = w} low high None next small h = λ n q s.
       let same = (one_word next s.0.1).0 in
       let value : value_of (word_bytes w) ≡ n = ap value_of same ∙ s.0.3 in
-      none (subst Writes (sym same) s.0.2, omega (arith, value, s.2))
-
-  pub out_of_range : {r : Point} {w : Word} (low high v : ℕ) → WordNext p w r → v ≡ value_of (word_bytes w) → ((low ≤ v) × (v ≤ high) → ⊥) → (n : ℕ) (q : Point) → WithinNext low high p n q → ⊥
-  out_of_range low high v next is out n q s =
-      let value : v ≡ n = is ∙ ap value_of (one_word next s.0.1).0 ∙ s.0.3 in
-      out (omega (arith, value, s.1), omega (arith, value, s.2))
+      h (((subst Writes (sym same) s.0.2, omega (arith, value, s.2)), omega (arith, value, s.2)), (omega (arith, value, s.1), omega (arith, value, s.2)))
+  number_told {w = w} low high (Some n) next small h = ((w, next, h.0.0.0.0, sym h.1), omega (arith, h.0.1.0, h.1), omega (arith, h.0.1.1, h.1))
 
   pub no_cleared : (w : Word) → ((n : ℕ) (q : Point) → WithinNext 1 4 p n q → ⊥) → (m : SimpleMap) (q : Point) → SimpleFits w Clearance p m q → ⊥
   no_cleared w h Present q s = let e = s.1 in let z : ◌≡◌ {A = ℕ} 0 1 = cc in omega arith
@@ -116,6 +130,15 @@ module _ {p : Point} (k : SimpleKind) where
   pub no_then : {r : Point} {w : Word} → WordNext p w r → (word_bytes w ≡ codes "then" → ⊥) → (o : Option SimpleMap) (q : Point) → ThenFits k p o q → ⊥
   no_then next nt None q s = not_both s.0.0 next
   no_then next nt (Some m) q s = nt ((one_word next s.0.1.1).0 ∙ s.0.1.2)
+
+module _ {p t : Point} {w : Word} (l r : SimpleKind) where
+  pub left_fits : WordNext p w t → word_bytes w ≡ codes "left" → (o : Option SimpleMap) (q : Point) → ThenFits l t o q → MapFits (Pair l r) p (Left o) q
+  left_fits next is None q h = ((t, (w, next, is), h.0), (l, r, refl), tt)
+  left_fits next is (Some m) q h = ((t, (w, next, is), h.0), (r, ap (λ k. Pair k r) (sym h.1.0)), h.1.1)
+
+  pub right_fits : WordNext p w t → word_bytes w ≡ codes "right" → (o : Option SimpleMap) (q : Point) → ThenFits r t o q → MapFits (Pair l r) p (Right o) q
+  right_fits next is None q h = ((t, (w, next, is), h.0), (l, r, refl), tt)
+  right_fits next is (Some m) q h = ((t, (w, next, is), h.0), (l, ap (Pair l) (sym h.1.0)), h.1.1)
 
 module _ {p : Point} where
   pub no_map_word : (k : KindName) → ((w : Word) (s : Point) → WordNext p w s → ⊥) → (m : MapName) (q : Point) → MapFits k p m q → ⊥

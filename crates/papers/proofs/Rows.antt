@@ -1,21 +1,16 @@
 -- Words one after the other: what is left of the text gets shorter.
-use Rattle.std.proofs.Common.{◌≡◌, ℕ, ◌<◌, ◌≤◌, Bool, true, false, not, List, [], ◌∷◌, ◌++◌, length, eqb, sym, refl, ap, ◌∙◌, subst, append_assoc, append-nil, arith, length-append}
-use Rattle.std.specs.Cmp.Lexicographic.{pointwise}
-use Rattle.std.proofs.lemmas.Slice.Eq.{slice_eq-Decides}
+use Rattle.std.proofs.Common.{◌≡◌, ◌<◌, ◌≤◌, List, [], ◌∷◌, ◌++◌, length, sym, ap, ◌∙◌, subst, append_assoc, append-nil, arith, length-append}
 use Rattle.text.specs.declared.words.Word.{Word}
 use Rattle.text.specs.Lines.{Point, word_bytes, NoWord, NoMore, WordNext, WordBelow, Skips, stay, line}
 use Rattle.papers.specs.Papers.{Row, WholeRow, ItemsLine, ItemsLines, AllItems, none, more}
 use Rattle.text.proofs.Cuts.{below_shorter}
-use Rattle.text.proofs.Single.{clash}
-use Rattle.std.proofs.lemmas.Bool.{not-false, not-true}
-use Rattle.std.proofs.lemmas.Bool.Decides.{Decides-eqb}
 
 pub word_shorter : {p q : Point} {w : Word} → WordNext p w q → length q.left < length p.left
 word_shorter {p} {q} {w} h = omega (arith, h.some, ap length h.cut ∙ length-append h.gap (word_bytes w ++ q.left), length-append (word_bytes w) q.left)
 
 skips_shorter : {p q : Point} → Skips p q → length q.left ≤ length p.left
 skips_shorter stay = omega arith
-skips_shorter {p} (line {q = q} empty next others) = omega (arith, skips_shorter others, below_shorter p q next)
+skips_shorter {p} (line {q = q} empty next others) = omega (arith, skips_shorter others, below_shorter next)
 
 first_shorter : {p q : Point} {w : Word} → WordBelow p w q → length q.left < length p.left
 first_shorter h = omega (arith, skips_shorter h.1, word_shorter h.2)
@@ -45,11 +40,3 @@ all_items_lem {p} {r = r} {vs = vs} {ws = ws} first others ended is = (
   omega (arith, first.2.1, ap length is, length-append vs ws),
   ended,
 )
-
--- what `!=` says of two texts where it is false
-pub same_from_ne : (xs ys : List ℕ) (r : Bool) → r ≡ not (pointwise eqb xs ys) → r ≡ false → xs ≡ ys
-same_from_ne xs ys r e f = (slice_eq-Decides Decides-eqb xs ys _ refl).0 (not-false _ (sym e ∙ f))
-
--- and where it is true
-pub differs : (xs ys : List ℕ) (r : Bool) → r ≡ not (pointwise eqb xs ys) → r ≡ true → xs ≡ ys → ⊥
-differs xs ys r e f same = clash _ ((slice_eq-Decides Decides-eqb xs ys _ refl).1 same) (not-true _ (sym e ∙ f))

@@ -8,7 +8,7 @@ ghost use Rattle.grammar.specs.Keywords.{kind_bytes};
 ghost use Rattle.papers.specs.Papers.{Told, Mistaken, Says, Begins, WithinNext, KindNext, SimpleFits, ThenFits, MapFits, KindLine, MapLineFits, WholeRow, AllItems, IsPaper};
 
 use grammar::mistakes::{Expected, Found, Misfit, Mistake, Part};
-use grammar::names::{KindName, MapName, MapWord, SimpleKind, SimpleMap, map_word, simple_kind};
+use grammar::names::{KindName, MapName, MapWord, SimpleKind, SimpleMap, named};
 use std::alloc::{AllocError, AllocFailed, Global};
 use text::numbers::number;
 use text::words::{Reader, Word};
@@ -56,14 +56,11 @@ impl<'a, T: Drop> From<AllocFailed<T>> for Failure<'a> {
 fn next<'a>(reader: &mut Reader<'a>, expected: Expected) -> Result<Word<'a>, Mistake<'a>>
     ensures { Told result (point reader.new) (λ w q. WordNext (point reader.old) w q) }
 {
-    match reader.word() {
-        Some(word) => Ok(word),
-        None => Err(Mistake {
-            place: reader.place(),
-            found: Found::EndOfLine,
-            expected,
-        }),
-    }
+    reader.word().ok_or(Mistake {
+        place: reader.place(),
+        found: Found::EndOfLine,
+        expected,
+    })
 }
 
 // The end of the line.
@@ -80,13 +77,11 @@ fn end<'a>(reader: &mut Reader<'a>) -> Result<(), Mistake<'a>>
 fn begin<'a>(reader: &mut Reader<'a>, keyword: &[u8], expected: Expected) -> Result<(), Mistake<'a>>
     ensures { Told result (point reader.new) (λ _ q. Begins (point reader.old) keyword.now q) }
 {
-    let Some(word) = reader.first_word() else {
-        return Err(Mistake {
-            place: reader.end(),
-            found: Found::EndOfPaper,
-            expected,
-        });
-    };
+    let word = reader.first_word().ok_or(Mistake {
+        place: reader.end(),
+        found: Found::EndOfPaper,
+        expected,
+    })?;
     if word.text == keyword {
         Ok(())
     } else {
@@ -99,10 +94,7 @@ fn half<'a>(reader: &mut Reader<'a>, expected: Expected) -> Result<SimpleKind, M
     ensures { Told result (point reader.new) (λ k q. Says (point reader.old) (kind_bytes k) q) }
 {
     let word = next(reader, expected)?;
-    match simple_kind(word.text) {
-        Some(kind) => Ok(kind),
-        None => Err(Mistake::at(word, expected)),
-    }
+    named(word.text).ok_or(Mistake::at(word, expected))
 }
 
 // The words of a kind.
@@ -115,10 +107,9 @@ fn kind<'a>(reader: &mut Reader<'a>) -> Result<KindName, Mistake<'a>>
         let right = half(reader, Expected::RightHalf)?;
         return Ok(KindName::Pair(left, right));
     }
-    match simple_kind(word.text) {
-        Some(kind) => Ok(KindName::Simple(kind)),
-        None => Err(Mistake::at(word, Expected::Kind)),
-    }
+    named(word.text)
+        .map(KindName::Simple)
+        .ok_or(Mistake::at(word, Expected::Kind))
 }
 
 // A number from `low` to `high`.
@@ -131,13 +122,10 @@ fn number_within<'a>(
     ensures { Told result (point reader.new) (WithinNext low high (point reader.old)) }
 {
     let word = next(reader, expected)?;
-    let Some(n) = number(word.text) else {
-        return Err(Mistake::at(word, expected));
-    };
-    if n < u64::from(low) || n > u64::from(high) {
-        return Err(Mistake::at(word, expected));
-    }
-    Ok(n as u8)
+    number(word.text)
+        .and_then(|n| u8::try_from(n).ok())
+        .filter(|n| (low..=high).contains(n))
+        .ok_or(Mistake::at(word, expected))
 }
 
 // The map from a simple kind that begins with `word`, the last word read; it has to start at `kind`.
@@ -149,15 +137,13 @@ fn simple_map<'a>(
 ) -> Result<SimpleMap, Mistake<'a>>
     ensures { Told result (point reader.new) (SimpleFits word.entry kind (point reader.old)) }
 {
-    match (map_word(word.text), kind) {
+    match (named(word.text), kind) {
         (Some(MapWord::Present), SimpleKind::Count) => Ok(SimpleMap::Present),
         (Some(MapWord::Cleared), SimpleKind::Clearance) => {
-            let clearance = number_within(reader, 1, 4, Expected::Clearance)?;
-            Ok(SimpleMap::Cleared(clearance))
+            number_within(reader, 1, 4, Expected::Clearance).map(SimpleMap::Cleared)
         }
         (Some(MapWord::Under), SimpleKind::Condition) => {
-            let assignment = number_within(reader, 0, 63, Expected::Assignment)?;
-            Ok(SimpleMap::Under(assignment))
+            number_within(reader, 0, 63, Expected::Assignment).map(SimpleMap::Under)
         }
         (Some(other), _) => Err(misfit(word, other, part, KindName::Simple(kind))),
         (None, _) => Err(Mistake::at(word, map_of(part))),
@@ -195,8 +181,7 @@ fn then<'a>(
     };
     if then.text == b"then".as_slice() {
         let word = next(reader, Expected::MapOfHalf)?;
-        let map = simple_map(reader, word, part, half)?;
-        return Ok(Some(map));
+        return simple_map(reader, word, part, half).map(Some);
     }
     Err(Mistake::at(then, Expected::Then))
 }
@@ -206,23 +191,16 @@ fn map<'a>(reader: &mut Reader<'a>, kind: KindName) -> Result<MapName, Mistake<'
     ensures { Told result (point reader.new) (MapFits kind (point reader.old)) }
 {
     let word = next(reader, Expected::Map)?;
-    match (map_word(word.text), kind) {
-        (_, KindName::Simple(simple)) => Ok(MapName::Direct(simple_map(
-            reader,
-            word,
-            Part::Whole,
-            simple,
-        )?)),
-        (Some(MapWord::Left), KindName::Pair(left, _)) => Ok(MapName::Left(then(
-            reader,
-            Part::LeftHalf,
-            left,
-        )?)),
-        (Some(MapWord::Right), KindName::Pair(_, right)) => Ok(MapName::Right(then(
-            reader,
-            Part::RightHalf,
-            right,
-        )?)),
+    match (named(word.text), kind) {
+        (_, KindName::Simple(simple)) => {
+            simple_map(reader, word, Part::Whole, simple).map(MapName::Direct)
+        }
+        (Some(MapWord::Left), KindName::Pair(left, _)) => {
+            then(reader, Part::LeftHalf, left).map(MapName::Left)
+        }
+        (Some(MapWord::Right), KindName::Pair(_, right)) => {
+            then(reader, Part::RightHalf, right).map(MapName::Right)
+        }
         (Some(other), _) => Err(misfit(word, other, Part::Whole, kind)),
         (None, _) => Err(Mistake::at(word, Expected::Map)),
     }

@@ -1,7 +1,7 @@
-use Rattle.std.proofs.Common.{[], ◌++◌, sym, ap, ◌∙◌, append_assoc, append-nil}
+use Rattle.std.proofs.Common.{[], ◌++◌, sym, ap, ◌∙◌, append_assoc, append-nil, rules}
 use Rattle.text.specs.Lines.{point}
 use Rattle.papers.specs.Papers.{ItemsLine, none}
-use Rattle.papers.proofs.Rows.{line_shorter, lines_on, all_items_lem, same_from_ne, differs}
+use Rattle.papers.proofs.Rows.{line_shorter, lines_on, all_items_lem}
 use Rattle.papers.proofs.Whole.{broke_off, handed_on, rest_on, no_other, no_annotations, no_items, no_first_row, no_later_row}
 use Rattle.papers.proofs.statements.all_items.Goals as goal
 
@@ -9,7 +9,7 @@ use Rattle.papers.proofs.statements.all_items.Goals as goal
 turn : (c : goal.In_ok-annotations-2) → ItemsLine (point c.loop-word.reader) c.in_ok-annotations-2.ensures.0 (point c.annotations-in-Some.new.reader)
 turn c = (
   point c.first_word.new.self,
-  (c.in-Some.word, c.in-Some.ensures, same_from_ne _ _ _ c.ne.ensures c.if-ne.false ∙ c.as_slice.ensures),
+  (c.in-Some.word, c.in-Some.ensures, search rules),
   c.in_ok-annotations-2.ensures.2,
 )
 
@@ -22,12 +22,12 @@ returns-in_err-annotations c = handed_on _ _ _ _ _ c.from_residual-in_err-annota
 pub returns-then-ne : goal.returns-then-ne
 returns-then-ne c =
     let new = c.in_ok-annotations.ensures in
-    no_later_row (point c.begin.new.reader, c.in_ok-begin.ensures, new.2) c.loop-word.invariant.3 (no_other c.in-Some.ensures (λ e. differs _ _ _ c.ne.ensures c.if-ne.true (e ∙ sym c.as_slice.ensures)))
+    no_later_row (point c.begin.new.reader, c.in_ok-begin.ensures, new.2) c.loop-word.invariant.3 (no_other c.in-Some.ensures (search rules))
 
 pub returns-in_err-annotations-2 : goal.returns-in_err-annotations-2
 returns-in_err-annotations-2 c =
     let new = c.in_ok-annotations.ensures in
-    handed_on _ _ _ _ _ c.from_residual-in_err-annotations-2.ensures.1 (λ h. no_later_row (point c.begin.new.reader, c.in_ok-begin.ensures, new.2) c.loop-word.invariant.3 (no_annotations (c.in-Some.word, c.in-Some.ensures, same_from_ne _ _ _ c.ne.ensures c.if-ne.false ∙ c.as_slice.ensures) h)) c.in_err-annotations-2.ensures
+    handed_on _ _ _ _ _ c.from_residual-in_err-annotations-2.ensures.1 (λ h. no_later_row (point c.begin.new.reader, c.in_ok-begin.ensures, new.2) c.loop-word.invariant.3 (no_annotations (c.in-Some.word, c.in-Some.ensures, search rules) h)) c.in_err-annotations-2.ensures
 
 pub loop-word-init : goal.loop-word-init
 loop-word-init c = ([], sym (append-nil _), none, λ h. h)

@@ -1,14 +1,17 @@
-use Rattle.std.proofs.Common.{◌∙◌}
-use Rattle.std.proofs.lemmas.Slice.Eq.{slice_eq-Decides}
-use Rattle.text.proofs.Single.{clash, one_first, not_first}
+use Rattle.std.proofs.Common.{◌∙◌, rules}
+use Rattle.std.proofs.lemmas.Option.{MatchOption-at_none, MatchOption-at_some}
+use Rattle.text.specs.Lines.{point}
+use Rattle.text.proofs.Single.{one_first, not_first}
+use Rattle.papers.specs.Papers.{Begins}
+use Rattle.papers.proofs.Refusals.{broke}
 use Rattle.papers.proofs.statements.begin.Goals as goal
-use Rattle.std.proofs.lemmas.Bool.Decides.{Decides-eqb}
 
-pub returns-in_default : goal.returns-in_default
-returns-in_default c = λ _ q b. not_first c.in_default.ensures b.1
-
-pub returns-then-eq : goal.returns-then-eq
-returns-then-eq c = (c.in-Some.word, c.in-Some.ensures, (slice_eq-Decides Decides-eqb _ _ _ c.eq.ensures).0 c.if-eq.true)
+pub returns-in_err-word : goal.returns-in_err-word
+returns-in_err-word c =
+    let none = MatchOption-at_none _ _ c.in_err-word.ensures.ok_part c.first_word.ensures in
+    broke _ _ (λ _. Begins (point c.args.reader.now) c.args.keyword.now) c.from_residual.ensures.0 (λ _ q b. not_first none b.1)
 
 pub returns-else-eq : goal.returns-else-eq
-returns-else-eq c = λ _ q b. clash _ ((slice_eq-Decides Decides-eqb _ _ _ c.eq.ensures).1 ((one_first c.in-Some.ensures b.1).0 ∙ b.2)) c.if-eq.false
+returns-else-eq c =
+    let first = MatchOption-at_some _ _ _ c.in_ok-word.ensures.ok_part c.first_word.ensures in
+    λ _ q b. let same = (one_first first b.1).0 ∙ b.2 in search rules

@@ -1,13 +1,16 @@
-use Rattle.std.proofs.Common.{arith}
-use Rattle.papers.proofs.Refusals.{broke, no_number_word, no_number, out_of_range}
+use Rattle.std.proofs.Common.{◌≡◌, ◌≤◌, ◌<◌, None, MatchOption, arith, rules}
+use Rattle.std.specs.Option.{SomeIff}
+use Rattle.text.specs.Lines.{point}
+use Rattle.papers.specs.Papers.{WithinNext}
+use Rattle.papers.proofs.Refusals.{broke, from_option, no_number_word, number_told, narrowed}
 use Rattle.papers.proofs.statements.number_within.Goals as goal
-use Rattle.papers.proofs.statements.number_within.Goals.{then-n-from-via-then-n-from, then-n-from-via-else-n-from+then-n-from-2}
 
 pub returns-in_err-word : goal.returns-in_err-word
 returns-in_err-word c = broke _ _ _ c.from_residual.ensures.0 (no_number_word _ _ c.in_err-word.ensures)
 
-pub returns-in_default : goal.returns-in_default
-returns-in_default c = no_number _ _ c.in_ok-word.ensures (omega arith) c.in_default.ensures
-
-pub returns-then-n-from : goal.returns-then-n-from
-returns-then-n-from c = out_of_range _ _ _ c.in_ok-word.ensures c.in-Some.ensures.1 (λ h. elim c.then-n-from.branch [ then-n-from-via-then-n-from w ↦ omega (arith, h.0, w.if-n-from.true, c.from.ensures) | then-n-from-via-else-n-from+then-n-from-2 w ↦ omega (arith, h.1, w.if-n-from-2.true, w.from-else-n-from.ensures) ])
+pub returns : goal.returns
+returns c =
+    let small : MatchOption c.number.result (c.and_then.result ≡ None) (λ n. SomeIff c.and_then.result (n < 256) n) = search rules in
+    let within : MatchOption c.and_then.result (c.filter.result ≡ None) (λ n. SomeIff c.filter.result ((c.args.low ≤ n) × (n ≤ c.args.high)) n) = search rules in
+    let told = number_told _ _ _ c.in_ok-word.ensures (omega arith) (narrowed _ _ _ _ _ (narrowed _ _ _ _ _ c.number.ensures small) within) in
+    from_option _ _ (WithinNext c.args.low c.args.high (point c.args.reader.now)) _ _ _ _ c.ok_or.ensures.value told (λ n h. h) (λ h. h)

@@ -1,31 +1,21 @@
-use Rattle.std.proofs.Common.{codes, sym, ◌∙◌}
-use Rattle.std.proofs.lemmas.Slice.Eq.{slice_eq-Decides}
-use Rattle.text.specs.Lines.{point}
-use Rattle.papers.proofs.Refusals.{broke, said, no_then_word, no_then_map, no_then}
-use Rattle.text.proofs.Single.{clash}
+use Rattle.std.proofs.Common.{◌≡◌, Ok, Err, Some, MatchResult, codes, rules}
+use Rattle.text.specs.Lines.{point, word_bytes}
+use Rattle.papers.specs.Papers.{SimpleFits, ThenFits}
+use Rattle.papers.proofs.Refusals.{broke, mapped, no_then_word, no_then_map, no_then}
 use Rattle.papers.proofs.statements.then.Goals as goal
-use Rattle.std.proofs.lemmas.Bool.Decides.{Decides-eqb}
 
 pub returns-in_err-word : goal.returns-in_err-word
 returns-in_err-word c =
-    let then = said (codes "then") c.in-Some.ensures ((slice_eq-Decides Decides-eqb _ _ _ c.eq.ensures).0 c.if-eq.true ∙ c.as_slice.ensures) in
-    broke _ _ _ c.from_residual.ensures.0 (no_then_word _ then c.in_err-word.ensures)
-
-pub returns-in_err-map : goal.returns-in_err-map
-returns-in_err-map c =
-    let then = said (codes "then") c.in-Some.ensures ((slice_eq-Decides Decides-eqb _ _ _ c.eq.ensures).0 c.if-eq.true ∙ c.as_slice.ensures) in
-    broke _ _ _ c.from_residual-in_err-map.ensures.0 (no_then_map _ then c.in_ok-word.ensures c.in_err-map.ensures)
+    let then : word_bytes c.in-Some.then ≡ codes "then" = search rules in
+    broke _ _ _ c.from_residual.ensures.0 (no_then_word _ (_, c.in-Some.ensures, then) c.in_err-word.ensures)
 
 pub returns-then-eq : goal.returns-then-eq
 returns-then-eq c =
-    let read = c.in_ok-map.ensures in (
-      (
-        point c.word.new.self,
-        (c.in-Some.then, c.in-Some.ensures, (slice_eq-Decides Decides-eqb _ _ _ c.eq.ensures).0 c.if-eq.true ∙ c.as_slice.ensures),
-        (c.in_ok-word.word, point c.next.new.reader, c.in_ok-word.ensures, read.0),
-      ),
-      (read.1, read.2),
-    )
+    let then : word_bytes c.in-Some.then ≡ codes "then" = search rules in
+    let next = c.in_ok-word.ensures in
+    let k = c.args.half in
+    let is : MatchResult c.simple_map.result (λ m. c.map.result ≡ Ok (Some m)) (λ e. c.map.result ≡ Err e) = search rules in
+    mapped Some _ _ _ (SimpleFits c.in_ok-word.word k (point c.next.new.reader)) (ThenFits k (point c.args.reader.now)) is c.simple_map.ensures (λ m h. ((_, (_, c.in-Some.ensures, then), (_, _, next, h.0)), (h.1, h.2))) (no_then_map k (_, c.in-Some.ensures, then) next)
 
 pub returns : goal.returns
-returns c = no_then _ c.in-Some.ensures (λ e. clash _ ((slice_eq-Decides Decides-eqb _ _ _ c.eq.ensures).1 (e ∙ sym c.as_slice.ensures)) c.if-eq.false)
+returns c = no_then _ c.in-Some.ensures (search rules)
