@@ -53,7 +53,6 @@ pub fn coarsen<K: Kind, L: Kind, M: Map<K, L>>(
     ensures before { IfOk result (λ c. (L.Kind.means c.mapped_sum ≡ total L.Kind.ring (map L.Kind.means c.images.items)) × (L.Kind.means c.mapped_product ≡ product L.Kind.ring (map L.Kind.means c.images.items))) }
     ensures agree { IfOk result (λ c. (L.Kind.means c.sum_mapped ≡ L.Kind.means c.mapped_sum) × (L.Kind.means c.product_mapped ≡ L.Kind.means c.mapped_product) × (c.agree ≡ true)) }
 {
-    m.homomorphism();
     let images = map_row(heap, m, row)?;
     let sum = sum_row(row);
     let product = multiply_row(row);
