@@ -1,6 +1,6 @@
 use Rattle.std.proofs.Common.{refl, arith}
 use Rattle.kinds.specs.Flags.{flags}
-use Rattle.maps.proofs.MapLaws.{cleared_keeps, right_keeps}
+use Rattle.maps.specs.MapLaws.{cleared_keeps, right_keeps}
 use Rattle.formats.specs.Documents.{commands}
 use Rattle.formats.specs.QueryBytes.{query_at}
 use Rattle.worked_examples.specs.Examples.{counting}
