@@ -1,5 +1,5 @@
 -- What no paper says: items that are missing, and a first line that another paper has.
-use Rattle.std.proofs.Common.{◌≡◌, ℕ, ◌<◌, true, List, length, is_err, IsErrAnd, codes, Result, sym, refl, ◌∙◌, subst, arith, MatchResult}
+use Rattle.std.proofs.Common.{◌≡◌, ℕ, ◌<◌, true, List, length, is_err, IsErrAnd, codes, Result, sym, refl, ◌∙◌, subst, arith, rules, MatchResult}
 use Rattle.std.proofs.lemmas.Result.{MatchResult-from_err, err_from_is_err_and}
 use Rattle.papers.specs.declared.statements.Failure.{Failure}
 use Rattle.papers.specs.declared.statements.Failure.TheVariants.{Mistake, NoMemory}
@@ -13,12 +13,10 @@ use Rattle.papers.proofs.Refusals.{one_begin, one_kind, one_map}
 use Rattle.text.proofs.Single.{one_word, not_both, one_first, not_first}
 
 mistaken : (e : Failure) (P : Type 0) → P → Mistaken e P
-mistaken (Mistake m) P h = h
-mistaken NoMemory P h = tt
+mistaken = search rules
 
 mistaken_on : (e : Failure) (P Q : Type 0) → (P → Q) → Mistaken e P → Mistaken e Q
-mistaken_on (Mistake m) P Q f h = f h
-mistaken_on NoMemory P Q f h = tt
+mistaken_on = search rules
 
 -- the exit of a `?`
 pub broke_off : {X : Type 0} (r : Result X Failure) (P : X → Type 0) (Q : Type 0) → is_err r ≡ true → Q → MatchResult r P (λ e. Mistaken e Q)
@@ -94,7 +92,7 @@ module _ (bs : List ℕ) where
   no_second_line k q line h p is =
       let o = one_kind_line (top bs) q is.after_kind k p.kind line is.kind in
       let at = subst (λ u. MapLine u p.map is.after_map) (sym o.1) is.map in
-      h p.map is.after_map (subst (λ j. MapLineFits j q p.map is.after_map) (sym o.0) (at, is.starts, is.sized))
+      h p.map is.after_map (subst (λ j. MapLineFits j q p.map is.after_map) (sym o.0) (at.0, at.1, (at.2, is.starts, is.sized), at.3))
 
   pub no_others : (k : KindName) (m : MapName) (q r : Point) → KindLine (top bs) k q → MapLine q m r → ((ws : List Word) (s : Point) → AllItems r ws s → ⊥) → (p : Paper) → IsPaper bs p → ⊥
   no_others k m q r line map h p is =
