@@ -1,10 +1,10 @@
 -- What no line says: where a word is missing or another stands, no kind and no map is read.
-use Rattle.std.proofs.Common.{rules, MatchOption, MatchResult, Ok, Err, ◌≡◌, ℕ, ◌^◌, ◌<◌, ◌≤◌, true, ◌⊎◌, List, get_or, is_err, Some, None, codes, Option, Result, sym, refl, ap, ◌∙◌, subst, inl, inr, arith}
+use Rattle.std.proofs.Common.{rules, MatchOption, MatchResult, Ok, Err, ◌≡◌, ℕ, ◌^◌, ◌<◌, ◌≤◌, true, ◌⊎◌, List, is_err, Some, None, codes, Option, Result, sym, refl, ap, ◌∙◌, subst, inl, inr, arith}
 use Rattle.std.proofs.lemmas.Result.{MatchResult-from_err}
 use Rattle.std.specs.Option.{ok_or, SomeIff}
 use Rattle.text.specs.declared.words.Word.{Word}
 use Rattle.grammar.specs.declared.names.SimpleKind.{SimpleKind}
-use Rattle.grammar.specs.declared.names.SimpleKind.TheVariants.{Flag, Count, Clearance, Condition}
+use Rattle.grammar.specs.declared.names.SimpleKind.TheVariants.{Clearance, Condition}
 use Rattle.grammar.specs.declared.names.KindName.{KindName}
 use Rattle.grammar.specs.declared.names.KindName.TheVariants.{Simple, Pair}
 use Rattle.grammar.specs.declared.names.SimpleMap.{SimpleMap}

@@ -2,7 +2,6 @@
 use Rattle.std.proofs.Common.{◌≡◌, ℕ, ◌<◌, true, List, length, is_err, IsErrAnd, codes, Result, sym, refl, ◌∙◌, subst, arith, rules, MatchResult}
 use Rattle.std.proofs.lemmas.Result.{MatchResult-from_err, err_from_is_err_and}
 use Rattle.papers.specs.declared.statements.Failure.{Failure}
-use Rattle.papers.specs.declared.statements.Failure.TheVariants.{Mistake, NoMemory}
 use Rattle.papers.specs.declared.statements.Paper.{Paper}
 use Rattle.text.specs.declared.words.Word.{Word}
 use Rattle.grammar.specs.declared.names.KindName.{KindName}
