@@ -59,13 +59,13 @@ module _ {p : Point} where
 
   pub no_left : {r : Point} → Says p (codes "pair") r → ((k : SimpleKind) (s : Point) → Says r (kind_bytes k) s → ⊥) → (k : KindName) (q : Point) → KindNext p k q → ⊥
   no_left pair h (Simple k) q s = not_pair k (says_one _ _ s pair).0
-  no_left pair h (Pair a b) q s = h a s.1 (subst (λ t. Says t (kind_bytes a) s.1) (sym (says_one _ _ pair s.2).1) s.3)
+  no_left pair h (Pair a b) q s = h a s.1 (rw (← (says_one _ _ pair s.2).1) at s.3)
 
   pub no_right : {r t : Point} (a : SimpleKind) → Says p (codes "pair") r → Says r (kind_bytes a) t → ((k : SimpleKind) (s : Point) → Says t (kind_bytes k) s → ⊥) → (k : KindName) (q : Point) → KindNext p k q → ⊥
   no_right a pair left h (Simple k) q s = not_pair k (says_one _ _ s pair).0
   no_right a pair left h (Pair x b) q s =
-      let second = subst (λ u. Says u (kind_bytes x) s.1) (sym (says_one _ _ pair s.2).1) s.3 in
-      h b q (subst (λ u. Says u (kind_bytes b) q) (sym (says_one _ _ left second).1) s.4)
+      let second = rw (← (says_one _ _ pair s.2).1) at s.3 in
+      h b q (rw (← (says_one _ _ left second).1) at s.4)
 
   pub no_kind : {r : Point} {w : Word} → WordNext p w r → (word_bytes w ≡ codes "pair" → ⊥) → ((k : SimpleKind) → word_bytes w ≡ kind_bytes k → ⊥) → (k : KindName) (q : Point) → KindNext p k q → ⊥
   no_kind next np nk (Simple k) q s = nk k ((one_word next s.1).0 ∙ s.2)
@@ -100,19 +100,19 @@ after_same = search rules
 after_first : {p r : Point} {w : Word} (q : Point) (m : SimpleMap) → WordNext p w r → SimpleNext p m q → SimpleAfter w r m q
 after_first {w = w} q m next s =
     let o = one_word s.2 next in
-    subst (λ u. SimpleAfter w u m q) o.1 (after_same w s.0 s.1 q m o.0 s.3)
+    rw o.1 at (after_same w s.0 s.1 q m o.0 s.3)
 
 module _ {p : Point} (k : SimpleKind) where
   pub no_then_word : {r : Point} → Says p (codes "then") r → ((w : Word) (s : Point) → WordNext r w s → ⊥) → (o : Option SimpleMap) (q : Point) → ThenFits k p o q → ⊥
   no_then_word then h None q s = not_both s.0.0 then.1
   no_then_word then h (Some m) q s =
       let rest = s.0.2 in
-      h rest.0 rest.1 (subst (λ u. WordNext u rest.0 rest.1) (sym (says_one _ _ then s.0.1).1) rest.2)
+      h rest.0 rest.1 (rw (← (says_one _ _ then s.0.1).1) at rest.2)
 
   pub no_then_map : {r t : Point} {w : Word} → Says p (codes "then") r → WordNext r w t → ((m : SimpleMap) (s : Point) → SimpleFits w k t m s → ⊥) → (o : Option SimpleMap) (q : Point) → ThenFits k p o q → ⊥
   no_then_map then next h None q s = not_both s.0.0 then.1
   no_then_map then next h (Some m) q s =
-      let rest = subst (λ u. SimpleNext u m q) (sym (says_one _ _ then s.0.1).1) s.0.2 in
+      let rest = rw (← (says_one _ _ then s.0.1).1) at s.0.2 in
       h m q (after_first q m next rest, s.1.0, s.1.1)
 
   pub no_then : {r : Point} {w : Word} → WordNext p w r → (word_bytes w ≡ codes "then" → ⊥) → (o : Option SimpleMap) (q : Point) → ThenFits k p o q → ⊥
@@ -143,20 +143,20 @@ module _ {p : Point} where
 
   pub no_left_map : {t : Point} {w : Word} (l r : SimpleKind) → WordNext p w t → word_bytes w ≡ codes "left" → ((o : Option SimpleMap) (q : Point) → ThenFits l t o q → ⊥) → (m : MapName) (q : Point) → MapFits (Pair l r) p m q → ⊥
   no_left_map l r next is h (Direct m) q s = let e = s.1 in cc
-  no_left_map l r next is h (Left None) q s = h None q (subst (λ u. ThenNext u None q) (sym (one_word next s.0.1.1).1) s.0.2, tt)
+  no_left_map l r next is h (Left None) q s = h None q (rw (← (one_word next s.0.1.1).1) at s.0.2, tt)
   no_left_map l r next is h (Left (Some m)) q s =
       let e = s.1.1 in
       let same : start_of m ≡ l = cc in
-      h (Some m) q (subst (λ u. ThenNext u (Some m) q) (sym (one_word next s.0.1.1).1) s.0.2, (same, s.2))
+      h (Some m) q (rw (← (one_word next s.0.1.1).1) at s.0.2, (same, s.2))
   no_left_map l r next is h (Right o) q s = let e = sym is ∙ (one_word next s.0.1.1).0 ∙ s.0.1.2 in grind arith
 
   pub no_right_map : {t : Point} {w : Word} (l r : SimpleKind) → WordNext p w t → word_bytes w ≡ codes "right" → ((o : Option SimpleMap) (q : Point) → ThenFits r t o q → ⊥) → (m : MapName) (q : Point) → MapFits (Pair l r) p m q → ⊥
   no_right_map l r next is h (Direct m) q s = let e = s.1 in cc
-  no_right_map l r next is h (Right None) q s = h None q (subst (λ u. ThenNext u None q) (sym (one_word next s.0.1.1).1) s.0.2, tt)
+  no_right_map l r next is h (Right None) q s = h None q (rw (← (one_word next s.0.1.1).1) at s.0.2, tt)
   no_right_map l r next is h (Right (Some m)) q s =
       let e = s.1.1 in
       let same : start_of m ≡ r = cc in
-      h (Some m) q (subst (λ u. ThenNext u (Some m) q) (sym (one_word next s.0.1.1).1) s.0.2, (same, s.2))
+      h (Some m) q (rw (← (one_word next s.0.1.1).1) at s.0.2, (same, s.2))
   no_right_map l r next is h (Left o) q s = let e = sym is ∙ (one_word next s.0.1.1).0 ∙ s.0.1.2 in grind arith
 
   pub no_half_map : {t : Point} {w : Word} (k : KindName) → WordNext p w t → (word_bytes w ≡ codes "left" → ⊥) → (word_bytes w ≡ codes "right" → ⊥) → ((j : SimpleKind) → k ≡ Simple j → ⊥) → (m : MapName) (q : Point) → MapFits k p m q → ⊥
@@ -174,8 +174,8 @@ one_kind p q r (Simple a) (Pair b d) s t = absurd (not_pair a (says_one _ _ s t.
 one_kind p q r (Pair a c) (Simple b) s t = absurd (not_pair b (says_one _ _ t s.2).0)
 one_kind p q r (Pair a c) (Pair b d) s t =
     let first = says_one _ _ s.2 t.2 in
-    let left = says_one _ _ s.3 (subst (λ u. Says u (kind_bytes b) t.1) (sym first.1) t.3) in
-    let right = says_one _ _ s.4 (subst (λ u. Says u (kind_bytes d) r) (sym left.1) t.4) in
+    let left = says_one _ _ s.3 (rw (← first.1) at t.3) in
+    let right = says_one _ _ s.4 (rw (← left.1) at t.4) in
     ((λ i. Pair (bytes_one a b left.0 i) (bytes_one c d right.0 i)), right.1)
 
 one_after : (w : Word) (p q r : Point) (a b : SimpleMap) → SimpleAfter w p a q → SimpleAfter w p b r → q ≡ r
@@ -196,7 +196,7 @@ one_then : (p q r : Point) (a b : Option SimpleMap) → ThenNext p a q → ThenN
 one_then p q r None None s t = s.1 ∙ sym t.1
 one_then p q r None (Some b) s t = absurd (not_both s.0 t.1.1)
 one_then p q r (Some a) None s t = absurd (not_both t.0 s.1.1)
-one_then p q r (Some a) (Some b) s t = one_simple q r a b s.2 (subst (λ u. SimpleNext u b r) (sym (says_one _ _ s.1 t.1).1) t.2)
+one_then p q r (Some a) (Some b) s t = one_simple q r a b s.2 (rw (← (says_one _ _ s.1 t.1).1) at t.2)
 
 -- no map of a half begins with `left` or `right`
 not_half : (w : Word) (p q : Point) (m : SimpleMap) → SimpleAfter w p m q → (word_bytes w ≡ codes "left") ⊎ (word_bytes w ≡ codes "right") → ⊥
@@ -210,8 +210,8 @@ one_map p q r (Left a) (Direct b) s t = absurd (not_half t.0 t.1 r b t.3 (inl ((
 one_map p q r (Right a) (Direct b) s t = absurd (not_half t.0 t.1 r b t.3 (inr ((one_word t.2 s.1.1).0 ∙ s.1.2)))
 one_map p q r (Left a) (Right b) s t = let e = (says_one _ _ s.1 t.1).0 in absurd (grind arith)
 one_map p q r (Right a) (Left b) s t = let e = (says_one _ _ s.1 t.1).0 in absurd (grind arith)
-one_map p q r (Left a) (Left b) s t = one_then _ q r a b s.2 (subst (λ u. ThenNext u b r) (sym (says_one _ _ s.1 t.1).1) t.2)
-one_map p q r (Right a) (Right b) s t = one_then _ q r a b s.2 (subst (λ u. ThenNext u b r) (sym (says_one _ _ s.1 t.1).1) t.2)
+one_map p q r (Left a) (Left b) s t = one_then _ q r a b s.2 (rw (← (says_one _ _ s.1 t.1).1) at t.2)
+one_map p q r (Right a) (Right b) s t = one_then _ q r a b s.2 (rw (← (says_one _ _ s.1 t.1).1) at t.2)
 
 pub one_begin : {p q r : Point} (bs : List ℕ) → Begins p bs q → Begins p bs r → q ≡ r
 one_begin bs a b = (one_first a.1 b.1).1
@@ -221,7 +221,7 @@ module _ {X : Type 0} (bs : List ℕ) (R : Point → X → Point → Type 0) {p 
   no_begin h x q s = h tt s.0 s.1
 
   pub no_rest : {r : Point} → Begins p bs r → ((x : X) (s : Point) → R r x s → ⊥) → (x : X) (q : Point) → Line bs R p x q → ⊥
-  no_rest b h x q s = h x q (subst (λ u. R u x q) (sym (one_begin bs b s.1)) s.2)
+  no_rest b h x q s = h x q (rw (← (one_begin bs b s.1)) at s.2)
 
   pub no_end : {r t : Point} (y : X) → ((x : X) (q : Point) → R r y t → R r x q → t ≡ q) → Begins p bs r → R r y t → (NoWord t → ⊥) → (x : X) (q : Point) → Line bs R p x q → ⊥
-  no_end y one b own h x q s = h (subst NoWord (sym (one x q own (subst (λ u. R u x q) (sym (one_begin bs b s.1)) s.2))) s.3)
+  no_end y one b own h x q s = h (subst NoWord (sym (one x q own (rw (← (one_begin bs b s.1)) at s.2))) s.3)

@@ -259,7 +259,7 @@ fn all_items<'a>(heap: Global, reader: &mut Reader<'a>) -> Result<Vec<Word<'a>>,
     annotations(reader, &mut items)?;
     while let Some(word) = reader.first_word() {
         if word.text != b"items".as_slice() {
-            return Err(Failure::Mistake(Mistake::at(word, Expected::MoreItems)));
+            return Err(Mistake::at(word, Expected::MoreItems).into());
         }
         annotations(reader, &mut items)?;
     }
