@@ -1,10 +1,10 @@
 -- What no line says: where a word is missing or another stands, no kind and no map is read.
-use Rattle.std.proofs.Common.{MatchOption, MatchResult, Ok, Err, ◌≡◌, ℕ, ◌^◌, ◌<◌, ◌≤◌, true, ◌⊎◌, List, get_or, is_err, Some, None, codes, Option, Result, sym, refl, ap, ◌∙◌, subst, inl, inr, arith}
+use Rattle.std.proofs.Common.{rules, MatchOption, MatchResult, Ok, Err, ◌≡◌, ℕ, ◌^◌, ◌<◌, ◌≤◌, true, ◌⊎◌, List, is_err, Some, None, codes, Option, Result, sym, refl, ap, ◌∙◌, subst, inl, inr, arith}
 use Rattle.std.proofs.lemmas.Result.{MatchResult-from_err}
 use Rattle.std.specs.Option.{ok_or, SomeIff}
 use Rattle.text.specs.declared.words.Word.{Word}
 use Rattle.grammar.specs.declared.names.SimpleKind.{SimpleKind}
-use Rattle.grammar.specs.declared.names.SimpleKind.TheVariants.{Flag, Count, Clearance, Condition}
+use Rattle.grammar.specs.declared.names.SimpleKind.TheVariants.{Clearance, Condition}
 use Rattle.grammar.specs.declared.names.KindName.{KindName}
 use Rattle.grammar.specs.declared.names.KindName.TheVariants.{Simple, Pair}
 use Rattle.grammar.specs.declared.names.SimpleMap.{SimpleMap}
@@ -16,7 +16,7 @@ use Rattle.text.specs.Lines.{Point, word_bytes, WordNext, NoWord}
 use Rattle.grammar.specs.Keywords.{kind_bytes, map_bytes}
 use Rattle.text.specs.Numerals.{Writes, value_of}
 use Rattle.grammar.specs.Starts.{start_of}
-use Rattle.papers.specs.Papers.{Told, Says, Begins, WithinNext, KindNext, SimpleAfter, SimpleFits, SimpleNext, ThenNext, ThenFits, MapNext, MapFits, KindLine, MapLineFits}
+use Rattle.papers.specs.Papers.{Told, Says, Begins, WithinNext, KindNext, SimpleAfter, SimpleFits, SimpleNext, ThenNext, ThenFits, MapNext, MapFits, Line}
 use Rattle.text.proofs.Single.{one_word, not_both, one_first}
 
 -- the exit of a `?`
@@ -40,21 +40,11 @@ narrowed P Q v None (Some y) h f = absurd cc
 narrowed P Q v (Some x) None h f = λ k. f (subst Q (sym h.1) k.1)
 narrowed P Q v (Some x) (Some y) h f = ((h.0, subst Q h.1 f.0), f.1 ∙ h.1)
 
-pub said : {p q : Point} {w : Word} (bs : List ℕ) → WordNext p w q → word_bytes w ≡ bs → Says p bs q
-said {w = w} bs next e = (w, next, e)
-
 says_one : {p q r : Point} (bs cs : List ℕ) → Says p bs q → Says p cs r → (bs ≡ cs) × (q ≡ r)
 says_one bs cs a b = let o = one_word a.1 b.1 in (sym a.2 ∙ o.0 ∙ b.2, o.1)
 
--- two words that begin with different bytes
-other : (xs ys : List ℕ) → xs ≡ ys → (get_or xs 0 0 ≡ get_or ys 0 0 → ⊥) → ⊥
-other xs ys e n = n (ap (λ l. get_or l 0 0) e)
-
 not_pair : (k : SimpleKind) → kind_bytes k ≡ codes "pair" → ⊥
-not_pair Flag e = other _ _ e (λ z. omega arith)
-not_pair Count e = other _ _ e (λ z. omega arith)
-not_pair Clearance e = other _ _ e (λ z. omega arith)
-not_pair Condition e = other _ _ e (λ z. omega arith)
+not_pair = search rules
 
 module _ {p : Point} where
   pub no_kind_word : ((w : Word) (s : Point) → WordNext p w s → ⊥) → (k : KindName) (q : Point) → KindNext p k q → ⊥
@@ -69,13 +59,13 @@ module _ {p : Point} where
 
   pub no_left : {r : Point} → Says p (codes "pair") r → ((k : SimpleKind) (s : Point) → Says r (kind_bytes k) s → ⊥) → (k : KindName) (q : Point) → KindNext p k q → ⊥
   no_left pair h (Simple k) q s = not_pair k (says_one _ _ s pair).0
-  no_left pair h (Pair a b) q s = h a s.1 (subst (λ t. Says t (kind_bytes a) s.1) (sym (says_one _ _ pair s.2).1) s.3)
+  no_left pair h (Pair a b) q s = h a s.1 (rw (← (says_one _ _ pair s.2).1) at s.3)
 
   pub no_right : {r t : Point} (a : SimpleKind) → Says p (codes "pair") r → Says r (kind_bytes a) t → ((k : SimpleKind) (s : Point) → Says t (kind_bytes k) s → ⊥) → (k : KindName) (q : Point) → KindNext p k q → ⊥
   no_right a pair left h (Simple k) q s = not_pair k (says_one _ _ s pair).0
   no_right a pair left h (Pair x b) q s =
-      let second = subst (λ u. Says u (kind_bytes x) s.1) (sym (says_one _ _ pair s.2).1) s.3 in
-      h b q (subst (λ u. Says u (kind_bytes b) q) (sym (says_one _ _ left second).1) s.4)
+      let second = rw (← (says_one _ _ pair s.2).1) at s.3 in
+      h b q (rw (← (says_one _ _ left second).1) at s.4)
 
   pub no_kind : {r : Point} {w : Word} → WordNext p w r → (word_bytes w ≡ codes "pair" → ⊥) → ((k : SimpleKind) → word_bytes w ≡ kind_bytes k → ⊥) → (k : KindName) (q : Point) → KindNext p k q → ⊥
   no_kind next np nk (Simple k) q s = nk k ((one_word next s.1).0 ∙ s.2)
@@ -89,13 +79,13 @@ module _ {p : Point} where
   number_told {w = w} low high (Some n) next small h = ((w, next, h.0.0.0.0, sym h.1), omega (arith, h.0.1.0, h.1), omega (arith, h.0.1.1, h.1))
 
   pub no_cleared : (w : Word) → ((n : ℕ) (q : Point) → WithinNext 1 4 p n q → ⊥) → (m : SimpleMap) (q : Point) → SimpleFits w Clearance p m q → ⊥
-  no_cleared w h Present q s = let e = s.1 in let z : ◌≡◌ {A = ℕ} 0 1 = cc in omega arith
+  no_cleared w h Present q s = let e = s.1 in cc
   no_cleared w h (Cleared n) q s = h n q (s.0.1, s.2.0, s.2.1)
-  no_cleared w h (Under n) q s = let e = s.1 in let z : ◌≡◌ {A = ℕ} 0 1 = cc in omega arith
+  no_cleared w h (Under n) q s = let e = s.1 in cc
 
   pub no_under : (w : Word) → ((n : ℕ) (q : Point) → WithinNext 0 63 p n q → ⊥) → (m : SimpleMap) (q : Point) → SimpleFits w Condition p m q → ⊥
-  no_under w h Present q s = let e = s.1 in let z : ◌≡◌ {A = ℕ} 0 1 = cc in omega arith
-  no_under w h (Cleared n) q s = let e = s.1 in let z : ◌≡◌ {A = ℕ} 0 1 = cc in omega arith
+  no_under w h Present q s = let e = s.1 in cc
+  no_under w h (Cleared n) q s = let e = s.1 in cc
   no_under w h (Under n) q s = h n q (s.0.1, omega arith, s.2)
 
 pub no_simple : (p : Point) (w : Word) (k : SimpleKind) → ((m : MapWord) → word_bytes w ≡ map_bytes m → ⊥) → (m : SimpleMap) (q : Point) → SimpleFits w k p m q → ⊥
@@ -104,27 +94,25 @@ no_simple p w k h (Cleared n) q s = h MapWord.Cleared s.0.0
 no_simple p w k h (Under n) q s = h MapWord.Under s.0.0
 
 after_same : (w v : Word) (p q : Point) (m : SimpleMap) → word_bytes v ≡ word_bytes w → SimpleAfter v p m q → SimpleAfter w p m q
-after_same w v p q Present e h = (sym e ∙ h.0, h.1)
-after_same w v p q (Cleared n) e h = (sym e ∙ h.0, h.1)
-after_same w v p q (Under n) e h = (sym e ∙ h.0, h.1)
+after_same = search rules
 
 -- the words of a map, at the point after its first word
 after_first : {p r : Point} {w : Word} (q : Point) (m : SimpleMap) → WordNext p w r → SimpleNext p m q → SimpleAfter w r m q
 after_first {w = w} q m next s =
     let o = one_word s.2 next in
-    subst (λ u. SimpleAfter w u m q) o.1 (after_same w s.0 s.1 q m o.0 s.3)
+    rw o.1 at (after_same w s.0 s.1 q m o.0 s.3)
 
 module _ {p : Point} (k : SimpleKind) where
   pub no_then_word : {r : Point} → Says p (codes "then") r → ((w : Word) (s : Point) → WordNext r w s → ⊥) → (o : Option SimpleMap) (q : Point) → ThenFits k p o q → ⊥
   no_then_word then h None q s = not_both s.0.0 then.1
   no_then_word then h (Some m) q s =
       let rest = s.0.2 in
-      h rest.0 rest.1 (subst (λ u. WordNext u rest.0 rest.1) (sym (says_one _ _ then s.0.1).1) rest.2)
+      h rest.0 rest.1 (rw (← (says_one _ _ then s.0.1).1) at rest.2)
 
   pub no_then_map : {r t : Point} {w : Word} → Says p (codes "then") r → WordNext r w t → ((m : SimpleMap) (s : Point) → SimpleFits w k t m s → ⊥) → (o : Option SimpleMap) (q : Point) → ThenFits k p o q → ⊥
   no_then_map then next h None q s = not_both s.0.0 then.1
   no_then_map then next h (Some m) q s =
-      let rest = subst (λ u. SimpleNext u m q) (sym (says_one _ _ then s.0.1).1) s.0.2 in
+      let rest = rw (← (says_one _ _ then s.0.1).1) at s.0.2 in
       h m q (after_first q m next rest, s.1.0, s.1.1)
 
   pub no_then : {r : Point} {w : Word} → WordNext p w r → (word_bytes w ≡ codes "then" → ⊥) → (o : Option SimpleMap) (q : Point) → ThenFits k p o q → ⊥
@@ -148,28 +136,28 @@ module _ {p : Point} where
 
   pub no_direct : {r : Point} {w : Word} (k : SimpleKind) → WordNext p w r → ((m : SimpleMap) (q : Point) → SimpleFits w k r m q → ⊥) → (m : MapName) (q : Point) → MapFits (Simple k) p m q → ⊥
   no_direct k next h (Direct m) q s = let e = s.1 in let same : start_of m ≡ k = cc in h m q (after_first q m next s.0, same, s.2)
-  no_direct k next h (Left None) q s = let e = s.1.2 in let z : ◌≡◌ {A = ℕ} 0 1 = cc in omega arith
-  no_direct k next h (Left (Some m)) q s = let e = s.1.1 in let z : ◌≡◌ {A = ℕ} 0 1 = cc in omega arith
-  no_direct k next h (Right None) q s = let e = s.1.2 in let z : ◌≡◌ {A = ℕ} 0 1 = cc in omega arith
-  no_direct k next h (Right (Some m)) q s = let e = s.1.1 in let z : ◌≡◌ {A = ℕ} 0 1 = cc in omega arith
+  no_direct k next h (Left None) q s = let e = s.1.2 in cc
+  no_direct k next h (Left (Some m)) q s = let e = s.1.1 in cc
+  no_direct k next h (Right None) q s = let e = s.1.2 in cc
+  no_direct k next h (Right (Some m)) q s = let e = s.1.1 in cc
 
   pub no_left_map : {t : Point} {w : Word} (l r : SimpleKind) → WordNext p w t → word_bytes w ≡ codes "left" → ((o : Option SimpleMap) (q : Point) → ThenFits l t o q → ⊥) → (m : MapName) (q : Point) → MapFits (Pair l r) p m q → ⊥
-  no_left_map l r next is h (Direct m) q s = let e = s.1 in let z : ◌≡◌ {A = ℕ} 0 1 = cc in omega arith
-  no_left_map l r next is h (Left None) q s = h None q (subst (λ u. ThenNext u None q) (sym (one_word next s.0.1.1).1) s.0.2, tt)
+  no_left_map l r next is h (Direct m) q s = let e = s.1 in cc
+  no_left_map l r next is h (Left None) q s = h None q (rw (← (one_word next s.0.1.1).1) at s.0.2, tt)
   no_left_map l r next is h (Left (Some m)) q s =
       let e = s.1.1 in
       let same : start_of m ≡ l = cc in
-      h (Some m) q (subst (λ u. ThenNext u (Some m) q) (sym (one_word next s.0.1.1).1) s.0.2, (same, s.2))
-  no_left_map l r next is h (Right o) q s = other _ _ (sym is ∙ (one_word next s.0.1.1).0 ∙ s.0.1.2) (λ z. omega arith)
+      h (Some m) q (rw (← (one_word next s.0.1.1).1) at s.0.2, (same, s.2))
+  no_left_map l r next is h (Right o) q s = let e = sym is ∙ (one_word next s.0.1.1).0 ∙ s.0.1.2 in grind arith
 
   pub no_right_map : {t : Point} {w : Word} (l r : SimpleKind) → WordNext p w t → word_bytes w ≡ codes "right" → ((o : Option SimpleMap) (q : Point) → ThenFits r t o q → ⊥) → (m : MapName) (q : Point) → MapFits (Pair l r) p m q → ⊥
-  no_right_map l r next is h (Direct m) q s = let e = s.1 in let z : ◌≡◌ {A = ℕ} 0 1 = cc in omega arith
-  no_right_map l r next is h (Right None) q s = h None q (subst (λ u. ThenNext u None q) (sym (one_word next s.0.1.1).1) s.0.2, tt)
+  no_right_map l r next is h (Direct m) q s = let e = s.1 in cc
+  no_right_map l r next is h (Right None) q s = h None q (rw (← (one_word next s.0.1.1).1) at s.0.2, tt)
   no_right_map l r next is h (Right (Some m)) q s =
       let e = s.1.1 in
       let same : start_of m ≡ r = cc in
-      h (Some m) q (subst (λ u. ThenNext u (Some m) q) (sym (one_word next s.0.1.1).1) s.0.2, (same, s.2))
-  no_right_map l r next is h (Left o) q s = other _ _ (sym is ∙ (one_word next s.0.1.1).0 ∙ s.0.1.2) (λ z. omega arith)
+      h (Some m) q (rw (← (one_word next s.0.1.1).1) at s.0.2, (same, s.2))
+  no_right_map l r next is h (Left o) q s = let e = sym is ∙ (one_word next s.0.1.1).0 ∙ s.0.1.2 in grind arith
 
   pub no_half_map : {t : Point} {w : Word} (k : KindName) → WordNext p w t → (word_bytes w ≡ codes "left" → ⊥) → (word_bytes w ≡ codes "right" → ⊥) → ((j : SimpleKind) → k ≡ Simple j → ⊥) → (m : MapName) (q : Point) → MapFits k p m q → ⊥
   no_half_map k next nl nr ns (Direct m) q s = ns (start_of m) s.1
@@ -178,22 +166,7 @@ module _ {p : Point} where
 
 -- a point has one kind, and one end of a kind or a map
 bytes_one : (a b : SimpleKind) → kind_bytes a ≡ kind_bytes b → a ≡ b
-bytes_one Flag Flag e = refl
-bytes_one Flag Count e = let z = ap (λ l. get_or l 2 0) e in absurd (omega arith)
-bytes_one Flag Clearance e = let z = ap (λ l. get_or l 2 0) e in absurd (omega arith)
-bytes_one Flag Condition e = let z = ap (λ l. get_or l 2 0) e in absurd (omega arith)
-bytes_one Count Flag e = let z = ap (λ l. get_or l 2 0) e in absurd (omega arith)
-bytes_one Count Count e = refl
-bytes_one Count Clearance e = let z = ap (λ l. get_or l 2 0) e in absurd (omega arith)
-bytes_one Count Condition e = let z = ap (λ l. get_or l 2 0) e in absurd (omega arith)
-bytes_one Clearance Flag e = let z = ap (λ l. get_or l 2 0) e in absurd (omega arith)
-bytes_one Clearance Count e = let z = ap (λ l. get_or l 2 0) e in absurd (omega arith)
-bytes_one Clearance Clearance e = refl
-bytes_one Clearance Condition e = let z = ap (λ l. get_or l 2 0) e in absurd (omega arith)
-bytes_one Condition Flag e = let z = ap (λ l. get_or l 2 0) e in absurd (omega arith)
-bytes_one Condition Count e = let z = ap (λ l. get_or l 2 0) e in absurd (omega arith)
-bytes_one Condition Clearance e = let z = ap (λ l. get_or l 2 0) e in absurd (omega arith)
-bytes_one Condition Condition e = refl
+bytes_one = search rules
 
 pub one_kind : (p q r : Point) (a b : KindName) → KindNext p a q → KindNext p b r → (a ≡ b) × (q ≡ r)
 one_kind p q r (Simple a) (Simple b) s t = let o = says_one _ _ s t in (ap Simple (bytes_one a b o.0), o.1)
@@ -201,19 +174,19 @@ one_kind p q r (Simple a) (Pair b d) s t = absurd (not_pair a (says_one _ _ s t.
 one_kind p q r (Pair a c) (Simple b) s t = absurd (not_pair b (says_one _ _ t s.2).0)
 one_kind p q r (Pair a c) (Pair b d) s t =
     let first = says_one _ _ s.2 t.2 in
-    let left = says_one _ _ s.3 (subst (λ u. Says u (kind_bytes b) t.1) (sym first.1) t.3) in
-    let right = says_one _ _ s.4 (subst (λ u. Says u (kind_bytes d) r) (sym left.1) t.4) in
+    let left = says_one _ _ s.3 (rw (← first.1) at t.3) in
+    let right = says_one _ _ s.4 (rw (← left.1) at t.4) in
     ((λ i. Pair (bytes_one a b left.0 i) (bytes_one c d right.0 i)), right.1)
 
 one_after : (w : Word) (p q r : Point) (a b : SimpleMap) → SimpleAfter w p a q → SimpleAfter w p b r → q ≡ r
 one_after w p q r Present Present s t = s.1 ∙ sym t.1
-one_after w p q r Present (Cleared n) s t = absurd (other _ _ (sym s.0 ∙ t.0) (λ z. omega arith))
-one_after w p q r Present (Under n) s t = absurd (other _ _ (sym s.0 ∙ t.0) (λ z. omega arith))
-one_after w p q r (Cleared m) Present s t = absurd (other _ _ (sym s.0 ∙ t.0) (λ z. omega arith))
+one_after w p q r Present (Cleared n) s t = let e = sym s.0 ∙ t.0 in absurd (grind arith)
+one_after w p q r Present (Under n) s t = let e = sym s.0 ∙ t.0 in absurd (grind arith)
+one_after w p q r (Cleared m) Present s t = let e = sym s.0 ∙ t.0 in absurd (grind arith)
 one_after w p q r (Cleared m) (Cleared n) s t = (one_word s.1.1 t.1.1).1
-one_after w p q r (Cleared m) (Under n) s t = absurd (other _ _ (sym s.0 ∙ t.0) (λ z. omega arith))
-one_after w p q r (Under m) Present s t = absurd (other _ _ (sym s.0 ∙ t.0) (λ z. omega arith))
-one_after w p q r (Under m) (Cleared n) s t = absurd (other _ _ (sym s.0 ∙ t.0) (λ z. omega arith))
+one_after w p q r (Cleared m) (Under n) s t = let e = sym s.0 ∙ t.0 in absurd (grind arith)
+one_after w p q r (Under m) Present s t = let e = sym s.0 ∙ t.0 in absurd (grind arith)
+one_after w p q r (Under m) (Cleared n) s t = let e = sym s.0 ∙ t.0 in absurd (grind arith)
 one_after w p q r (Under m) (Under n) s t = (one_word s.1.1 t.1.1).1
 
 one_simple : {p : Point} (q r : Point) (a b : SimpleMap) → SimpleNext p a q → SimpleNext p b r → q ≡ r
@@ -223,49 +196,32 @@ one_then : (p q r : Point) (a b : Option SimpleMap) → ThenNext p a q → ThenN
 one_then p q r None None s t = s.1 ∙ sym t.1
 one_then p q r None (Some b) s t = absurd (not_both s.0 t.1.1)
 one_then p q r (Some a) None s t = absurd (not_both t.0 s.1.1)
-one_then p q r (Some a) (Some b) s t = one_simple q r a b s.2 (subst (λ u. SimpleNext u b r) (sym (says_one _ _ s.1 t.1).1) t.2)
+one_then p q r (Some a) (Some b) s t = one_simple q r a b s.2 (rw (← (says_one _ _ s.1 t.1).1) at t.2)
 
-not_half : (w : Word) (p q : Point) (m : SimpleMap) (bs : List ℕ) → SimpleAfter w p m q → word_bytes w ≡ bs → (get_or bs 0 0 ≡ 108) ⊎ (get_or bs 0 0 ≡ 114) → ⊥
-not_half w p q Present bs s e (inl z) = let f = ap (λ l. get_or l 0 0) (sym s.0 ∙ e) in omega arith
-not_half w p q Present bs s e (inr z) = let f = ap (λ l. get_or l 0 0) (sym s.0 ∙ e) in omega arith
-not_half w p q (Cleared n) bs s e (inl z) = let f = ap (λ l. get_or l 0 0) (sym s.0 ∙ e) in omega arith
-not_half w p q (Cleared n) bs s e (inr z) = let f = ap (λ l. get_or l 0 0) (sym s.0 ∙ e) in omega arith
-not_half w p q (Under n) bs s e (inl z) = let f = ap (λ l. get_or l 0 0) (sym s.0 ∙ e) in omega arith
-not_half w p q (Under n) bs s e (inr z) = let f = ap (λ l. get_or l 0 0) (sym s.0 ∙ e) in omega arith
+-- no map of a half begins with `left` or `right`
+not_half : (w : Word) (p q : Point) (m : SimpleMap) → SimpleAfter w p m q → (word_bytes w ≡ codes "left") ⊎ (word_bytes w ≡ codes "right") → ⊥
+not_half = search rules
 
 pub one_map : (p q r : Point) (a b : MapName) → MapNext p a q → MapNext p b r → q ≡ r
 one_map p q r (Direct a) (Direct b) s t = one_simple q r a b s t
-one_map p q r (Direct a) (Left b) s t = absurd (not_half s.0 s.1 q a _ s.3 ((one_word s.2 t.1.1).0 ∙ t.1.2) (inl refl))
-one_map p q r (Direct a) (Right b) s t = absurd (not_half s.0 s.1 q a _ s.3 ((one_word s.2 t.1.1).0 ∙ t.1.2) (inr refl))
-one_map p q r (Left a) (Direct b) s t = absurd (not_half t.0 t.1 r b _ t.3 ((one_word t.2 s.1.1).0 ∙ s.1.2) (inl refl))
-one_map p q r (Right a) (Direct b) s t = absurd (not_half t.0 t.1 r b _ t.3 ((one_word t.2 s.1.1).0 ∙ s.1.2) (inr refl))
-one_map p q r (Left a) (Right b) s t = absurd (other _ _ (says_one _ _ s.1 t.1).0 (λ z. omega arith))
-one_map p q r (Right a) (Left b) s t = absurd (other _ _ (says_one _ _ s.1 t.1).0 (λ z. omega arith))
-one_map p q r (Left a) (Left b) s t = one_then _ q r a b s.2 (subst (λ u. ThenNext u b r) (sym (says_one _ _ s.1 t.1).1) t.2)
-one_map p q r (Right a) (Right b) s t = one_then _ q r a b s.2 (subst (λ u. ThenNext u b r) (sym (says_one _ _ s.1 t.1).1) t.2)
+one_map p q r (Direct a) (Left b) s t = absurd (not_half s.0 s.1 q a s.3 (inl ((one_word s.2 t.1.1).0 ∙ t.1.2)))
+one_map p q r (Direct a) (Right b) s t = absurd (not_half s.0 s.1 q a s.3 (inr ((one_word s.2 t.1.1).0 ∙ t.1.2)))
+one_map p q r (Left a) (Direct b) s t = absurd (not_half t.0 t.1 r b t.3 (inl ((one_word t.2 s.1.1).0 ∙ s.1.2)))
+one_map p q r (Right a) (Direct b) s t = absurd (not_half t.0 t.1 r b t.3 (inr ((one_word t.2 s.1.1).0 ∙ s.1.2)))
+one_map p q r (Left a) (Right b) s t = let e = (says_one _ _ s.1 t.1).0 in absurd (grind arith)
+one_map p q r (Right a) (Left b) s t = let e = (says_one _ _ s.1 t.1).0 in absurd (grind arith)
+one_map p q r (Left a) (Left b) s t = one_then _ q r a b s.2 (rw (← (says_one _ _ s.1 t.1).1) at t.2)
+one_map p q r (Right a) (Right b) s t = one_then _ q r a b s.2 (rw (← (says_one _ _ s.1 t.1).1) at t.2)
 
 pub one_begin : {p q r : Point} (bs : List ℕ) → Begins p bs q → Begins p bs r → q ≡ r
 one_begin bs a b = (one_first a.1 b.1).1
 
-module _ {p : Point} where
-  pub no_kind_begin : ((x : Unit {0}) (s : Point) → Begins p (codes "kind") s → ⊥) → (k : KindName) (q : Point) → KindLine p k q → ⊥
-  no_kind_begin h k q s = h tt s.0 s.1
+module _ {X : Type 0} (bs : List ℕ) (R : Point → X → Point → Type 0) {p : Point} where
+  pub no_begin : ((x : Unit {0}) (s : Point) → Begins p bs s → ⊥) → (x : X) (q : Point) → Line bs R p x q → ⊥
+  no_begin h x q s = h tt s.0 s.1
 
-  pub no_kind_rest : {r : Point} → Begins p (codes "kind") r → ((k : KindName) (s : Point) → KindNext r k s → ⊥) → (k : KindName) (q : Point) → KindLine p k q → ⊥
-  no_kind_rest b h k q s = h k q (subst (λ u. KindNext u k q) (sym (one_begin _ b s.1)) s.2)
+  pub no_rest : {r : Point} → Begins p bs r → ((x : X) (s : Point) → R r x s → ⊥) → (x : X) (q : Point) → Line bs R p x q → ⊥
+  no_rest b h x q s = h x q (rw (← (one_begin bs b s.1)) at s.2)
 
-  pub no_kind_end : {r : Point} (t : Point) (j : KindName) → Begins p (codes "kind") r → KindNext r j t → (NoWord t → ⊥) → (k : KindName) (q : Point) → KindLine p k q → ⊥
-  no_kind_end {r} t j b n h k q s =
-      let own = subst (λ u. KindNext u k q) (sym (one_begin _ b s.1)) s.2 in
-      h (subst NoWord (sym (one_kind r t q j k n own).1) s.3)
-
-  pub no_map_begin : (j : KindName) → ((x : Unit {0}) (s : Point) → Begins p (codes "map") s → ⊥) → (m : MapName) (q : Point) → MapLineFits j p m q → ⊥
-  no_map_begin j h m q s = h tt s.0.0 s.0.1
-
-  pub no_map_rest : {r : Point} (j : KindName) → Begins p (codes "map") r → ((m : MapName) (s : Point) → MapFits j r m s → ⊥) → (m : MapName) (q : Point) → MapLineFits j p m q → ⊥
-  no_map_rest j b h m q s = h m q (subst (λ u. MapNext u m q) (sym (one_begin _ b s.0.1)) s.0.2, s.1, s.2)
-
-  pub no_map_end : {r : Point} (t : Point) (j : KindName) (n : MapName) → Begins p (codes "map") r → MapNext r n t → (NoWord t → ⊥) → (m : MapName) (q : Point) → MapLineFits j p m q → ⊥
-  no_map_end {r} t j n b own h m q s =
-      let theirs = subst (λ u. MapNext u m q) (sym (one_begin _ b s.0.1)) s.0.2 in
-      h (subst NoWord (sym (one_map r t q n m own theirs)) s.0.3)
+  pub no_end : {r t : Point} (y : X) → ((x : X) (q : Point) → R r y t → R r x q → t ≡ q) → Begins p bs r → R r y t → (NoWord t → ⊥) → (x : X) (q : Point) → Line bs R p x q → ⊥
+  no_end y one b own h x q s = h (subst NoWord (sym (one x q own (rw (← (one_begin bs b s.1)) at s.2))) s.3)

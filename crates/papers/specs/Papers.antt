@@ -79,17 +79,21 @@ MapNext r (Right o) s = (q : Point) × Says r (codes "right") q × ThenNext q o 
 abbrev pub MapFits : KindName → Point → MapName → Point → Type 0
 MapFits k r m s = MapNext r m s × Starts m k × SizedMap m
 
+-- a line of the word bs and then x, which R reads
+abbrev pub Line : {X : Type 0} → List ℕ → (Point → X → Point → Type 0) → Point → X → Point → Type 0
+Line bs R r x s = (q : Point) × Begins r bs q × R q x s × NoWord s
+
 -- a line `kind` and a kind
 abbrev pub KindLine : Point → KindName → Point → Type 0
-KindLine r k s = (q : Point) × Begins r (codes "kind") q × KindNext q k s × NoWord s
+KindLine r k s = Line (codes "kind") KindNext r k s
 
 -- a line `map` and a map
 abbrev pub MapLine : Point → MapName → Point → Type 0
-MapLine r m s = (q : Point) × Begins r (codes "map") q × MapNext q m s × NoWord s
+MapLine r m s = Line (codes "map") MapNext r m s
 
 -- the same of a map that starts at the kind k and has its numbers within their bounds
 abbrev pub MapLineFits : KindName → Point → MapName → Point → Type 0
-MapLineFits k r m s = MapLine r m s × Starts m k × SizedMap m
+MapLineFits k r m s = Line (codes "map") (MapFits k) r m s
 
 -- ws are the next words of the line
 pub data Row : Point → List Word → Point → Type 0 where

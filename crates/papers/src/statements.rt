@@ -10,6 +10,7 @@ ghost use Rattle.papers.specs.Papers.{Told, Mistaken, Says, Begins, WithinNext, 
 use grammar::mistakes::{Expected, Found, Misfit, Mistake, Part};
 use grammar::names::{KindName, MapName, MapWord, SimpleKind, SimpleMap, named};
 use std::alloc::{AllocError, AllocFailed, Global};
+use std::fmt;
 use text::numbers::number;
 use text::words::{Reader, Word};
 
@@ -21,7 +22,7 @@ pub struct Paper<'a> {
     pub items: Vec<Word<'a>>,
 }
 
-/// Why a paper was not read.
+/// Why a paper was not read. It prints as a sentence.
 #[derive(Drop)]
 pub enum Failure<'a> {
     Mistake(Mistake<'a>),
@@ -49,6 +50,15 @@ impl<'a, T: Drop> From<AllocFailed<T>> for Failure<'a> {
 
     fn from(_e: AllocFailed<T>) -> Failure<'a> {
         Failure::NoMemory
+    }
+}
+
+impl fmt::Display for Failure<'_> {
+    fn fmt<W: fmt::Write>(&self, f: &mut fmt::Formatter<W>) -> fmt::Result {
+        match self {
+            Failure::Mistake(mistake) => write!(f, "{mistake}"),
+            Failure::NoMemory => f.write_str("memory is short"),
+        }
     }
 }
 
@@ -129,6 +139,7 @@ fn number_within<'a>(
 }
 
 // The map from a simple kind that begins with `word`, the last word read; it has to start at `kind`.
+// `part` is only for the mistake: a struct of it and `kind` would be taken apart at each use.
 fn simple_map<'a>(
     reader: &mut Reader<'a>,
     word: Word<'a>,
@@ -206,7 +217,8 @@ fn map<'a>(reader: &mut Reader<'a>, kind: KindName) -> Result<MapName, Mistake<'
     }
 }
 
-// A line with `kind` and a kind.
+// A line with `kind` and a kind. It stands beside `map_line`: one function for both would take what reads
+// the middle as a closure, and its contract, over that closure's calls, would be longer than these two.
 fn kind_line<'a>(reader: &mut Reader<'a>) -> Result<KindName, Mistake<'a>>
     ensures { Told result (point reader.new) (KindLine (point reader.old)) }
 {
@@ -247,7 +259,7 @@ fn all_items<'a>(heap: Global, reader: &mut Reader<'a>) -> Result<Vec<Word<'a>>,
     annotations(reader, &mut items)?;
     while let Some(word) = reader.first_word() {
         if word.text != b"items".as_slice() {
-            return Err(Failure::Mistake(Mistake::at(word, Expected::MoreItems)));
+            return Err(Mistake::at(word, Expected::MoreItems).into());
         }
         annotations(reader, &mut items)?;
     }

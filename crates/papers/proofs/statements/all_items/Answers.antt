@@ -2,7 +2,7 @@ use Rattle.std.proofs.Common.{[], ◌++◌, sym, ap, ◌∙◌, append_assoc, ap
 use Rattle.text.specs.Lines.{point}
 use Rattle.papers.specs.Papers.{ItemsLine, none}
 use Rattle.papers.proofs.Rows.{line_shorter, lines_on, all_items_lem}
-use Rattle.papers.proofs.Whole.{broke_off, handed_on, rest_on, no_other, no_annotations, no_items, no_first_row, no_later_row}
+use Rattle.papers.proofs.Whole.{mistaken, broke_off, handed_on, rest_on, no_other, no_annotations, no_items, no_first_row, no_later_row}
 use Rattle.papers.proofs.statements.all_items.Goals as goal
 
 -- the line that a turn of the loop reads
@@ -22,7 +22,7 @@ returns-in_err-annotations c = handed_on _ _ _ _ _ c.from_residual-in_err-annota
 pub returns-then-ne : goal.returns-then-ne
 returns-then-ne c =
     let new = c.in_ok-annotations.ensures in
-    no_later_row (point c.begin.new.reader, c.in_ok-begin.ensures, new.2) c.loop-word.invariant.3 (no_other c.in-Some.ensures (search rules))
+    mistaken c.into.result _ (no_later_row (point c.begin.new.reader, c.in_ok-begin.ensures, new.2) c.loop-word.invariant.3 (no_other c.in-Some.ensures (search rules)))
 
 pub returns-in_err-annotations-2 : goal.returns-in_err-annotations-2
 returns-in_err-annotations-2 c =

@@ -1,18 +1,15 @@
-use Rattle.std.proofs.Common.{[], ◌∷◌, ◌++◌, sym, ap, ◌∙◌, append_assoc, append-nil}
+use Rattle.std.proofs.Common.{[], ◌∷◌, ◌++◌, sym, ap, ◌∙◌, append_assoc, append-nil, rules}
 use Rattle.text.specs.Lines.{point}
 use Rattle.papers.specs.Papers.{none}
-use Rattle.papers.proofs.Rows.{word_shorter, row_on, row_ends}
-use Rattle.papers.proofs.Whole.{broke_off, no_row}
+use Rattle.papers.proofs.Rows.{row_on, row_ends}
+use Rattle.papers.proofs.Whole.{no_row}
 use Rattle.papers.proofs.statements.annotations.Goals as goal
 
 pub returns-in_err-first : goal.returns-in_err-first
-returns-in_err-first c = broke_off _ _ _ c.from_residual.ensures.0 (no_row c.in_err-first.ensures)
+returns-in_err-first c = search (rules, no_row)
 
 pub loop-word-init : goal.loop-word-init
 loop-word-init c = ([], sym (append-nil _), none)
-
-pub loop-word-smaller : goal.loop-word-smaller
-loop-word-smaller c = word_shorter c.in-Some.ensures
 
 pub loop-word-preserved : goal.loop-word-preserved
 loop-word-preserved c =

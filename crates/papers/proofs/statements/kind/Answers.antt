@@ -8,7 +8,7 @@ use Rattle.papers.specs.Papers.{KindNext}
 use Rattle.papers.proofs.statements.kind.Goals as goal
 
 pub returns-in_err-word : goal.returns-in_err-word
-returns-in_err-word c = broke _ _ _ c.from_residual.ensures.0 (no_kind_word c.in_err-word.ensures)
+returns-in_err-word c = search (rules, no_kind_word)
 
 pub returns-in_err-left : goal.returns-in_err-left
 returns-in_err-left c =
@@ -19,11 +19,6 @@ pub returns-in_err-right : goal.returns-in_err-right
 returns-in_err-right c =
     let pair : word_bytes c.in_ok-word.word ≡ codes "pair" = search rules in
     broke _ _ _ c.from_residual-in_err-right.ensures.0 (no_right _ (_, c.in_ok-word.ensures, pair) c.in_ok-left.ensures c.in_err-right.ensures)
-
-pub returns-then-eq : goal.returns-then-eq
-returns-then-eq c =
-    let pair : word_bytes c.in_ok-word.word ≡ codes "pair" = search rules in
-    (point c.next.new.reader, point c.half.new.reader, (_, c.in_ok-word.ensures, pair), c.in_ok-left.ensures, c.in_ok-right.ensures)
 
 pub returns : goal.returns
 returns c =

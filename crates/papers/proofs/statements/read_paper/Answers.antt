@@ -18,7 +18,8 @@ returns-in_err-map c = broke_off _ _ _ c.from_residual-in_err-map.ensures.0 (no_
 pub returns-in_err-items : goal.returns-in_err-items
 returns-in_err-items c =
     let one = first (goal.at.returns-in_err-items c).In_ok-kind in
-    handed_on _ _ _ _ _ c.from_residual-in_err-items.ensures.1 (no_others _ _ _ _ _ one c.in_ok-map.ensures.0) c.in_err-items.ensures
+    let mapped = c.in_ok-map.ensures in
+    handed_on _ _ _ _ _ c.from_residual-in_err-items.ensures.1 (no_others _ _ _ _ _ one (mapped.0, mapped.1, mapped.2.0, mapped.3)) c.in_err-items.ensures
 
 pub returns : goal.returns
 returns c =
@@ -28,8 +29,8 @@ returns c =
       after_map = point c.map_line.new.reader;
       last = point c.all_items.new.reader;
       kind = first (goal.at.returns c).In_ok-kind;
-      map = mapped.0;
+      map = (mapped.0, mapped.1, mapped.2.0, mapped.3);
       items = c.in_ok-items.ensures;
-      starts = mapped.1;
-      sized = mapped.2;
+      starts = mapped.2.1;
+      sized = mapped.2.2;
     }
