@@ -4,7 +4,6 @@
 use anyhow::anyhow;
 use papers::statements::Failure;
 use player::play::play;
-use std::alloc::Global;
 use std::io::Read;
 use std::{env, fs};
 
@@ -31,14 +30,14 @@ fn read_input(rt: &HostRuntime) -> anyhow::Result<Vec<u8>> {
 }
 
 // Plays one paper and prints what came out. A mistake is an error that begins with the paper's name.
-fn show(rt: &HostRuntime, heap: Global, name: &str, text: &[u8]) -> anyhow::Result<()> {
-    match play(heap, text) {
+fn show(rt: &HostRuntime, name: &str, text: &[u8]) -> anyhow::Result<()> {
+    match play(rt.alloc(), text) {
         Ok(told) => {
             rt.print(told)?;
             Ok(())
         }
         Err(Failure::Mistake(mistake)) => {
-            rt.eprintln(format!(in heap; "{name}: {mistake}")?)?;
+            eprintln!(rt; "{name}: {mistake}")?;
             Err(anyhow!("the paper has a mistake"))
         }
         Err(Failure::NoMemory) => Err(anyhow!("memory is short")),
@@ -46,25 +45,24 @@ fn show(rt: &HostRuntime, heap: Global, name: &str, text: &[u8]) -> anyhow::Resu
 }
 
 fn run(rt: &HostRuntime) -> anyhow::Result<()> {
-    let heap = rt.alloc();
     let mut words = env::args(rt)?;
     let _ = words.next();
     let Some(word) = words.next() else {
         println!(rt; "the built-in sample:\n\n{SAMPLE}\nplayed:\n")?;
-        return show(rt, heap, "sample", SAMPLE.as_bytes());
+        return show(rt, "sample", SAMPLE.as_bytes());
     };
-    if words.next().is_some() || word.as_str() == "-h" || word.as_str() == "--help" {
+    let word = word.as_str();
+    if words.next().is_some() || word == "-h" || word == "--help" {
         rt.eprintln(USAGE)?;
         return Err(anyhow!("expected one word at most: a file, or -"));
     }
-    if word.as_str() == "-" {
-        let text = read_input(rt)?;
-        return show(rt, heap, "standard input", &text);
+    if word == "-" {
+        return show(rt, "standard input", &read_input(rt)?);
     }
-    match fs::read(rt, word.as_str()) {
-        Ok(text) => show(rt, heap, word.as_str(), &text),
+    match fs::read(rt, word) {
+        Ok(text) => show(rt, word, &text),
         Err(e) => {
-            rt.eprintln(format!(in heap; "solbuter: {word} cannot be read")?)?;
+            eprintln!(rt; "solbuter: {word} cannot be read")?;
             Err(e.into())
         }
     }

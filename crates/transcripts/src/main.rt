@@ -2,18 +2,15 @@
 // the mistake. The gate compares this with what it should be.
 #![tactic(auto)]
 
-use papers::statements::Failure;
 use player::play::play;
 use std::io::Read;
 
 // One paper, and what came out.
 fn show(rt: &HostRuntime, text: &str) -> anyhow::Result<()> {
-    let heap = rt.alloc();
     rt.print(text)?;
-    match play(heap, text.as_bytes()) {
+    match play(rt.alloc(), text.as_bytes()) {
         Ok(told) => println!(rt; "=> played\n{told}")?,
-        Err(Failure::Mistake(mistake)) => println!(rt; "=> {mistake}\n")?,
-        Err(Failure::NoMemory) => println!(rt; "=> memory is short\n")?,
+        Err(failure) => println!(rt; "=> {failure}\n")?,
     }
     Ok(())
 }
