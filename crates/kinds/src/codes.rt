@@ -5,7 +5,7 @@ ghost use Rattle.kinds.specs.Codes.{spelled, Reads, OneCode};
 use crate::semiring::Kind;
 
 /// A kind whose annotations have codes. It stands in place of `TryFrom<u64>` and `Into<u64>`, which have no place for the law that
-/// ties the two, `one_code`.
+/// ties the two, `one_code`. An implementation's `read` is its table of codes, and an enum's number is had by `as` alone.
 pub trait Coded: Kind {
     // The code of the annotation that a value stands for.
     ghost number: { Self → ℕ };

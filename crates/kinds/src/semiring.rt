@@ -22,7 +22,7 @@ pub trait Kind: Copy {
     fn times(self, other: Self) -> Self
         ensures { means result ≡ ring.times (means self) (means other) };
 
-    /// Whether the two stand for one annotation.
+    /// Whether the two stand for one annotation. It is not `PartialEq`, whose `==` would compare plain values that several may stand for one.
     fn same(self, other: Self) -> bool
         ensures { result ≡ ring.same (means self) (means other) };
 

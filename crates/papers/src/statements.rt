@@ -37,6 +37,7 @@ impl<'a> From<Mistake<'a>> for Failure<'a> {
     }
 }
 
+// Twice, since `?` meets both of the library's errors of want of memory, and converts once.
 impl<'a> From<AllocError> for Failure<'a> {
     ghost from_gives = { λ _ r. r ≡ NoMemory };
 

@@ -58,6 +58,7 @@ pub fn coded_item<'a, K: Coded>(word: Word<'a>, kind: SimpleKind) -> Result<K, M
     K::read(code).ok_or(mistake)
 }
 
+// Each simple kind has an implementation of its own: one for all kinds with codes would overlap with that of pairs.
 impl Item for Flag {
     ghost written = { λ bs x. Spells (flag_code x.yes) bs };
 

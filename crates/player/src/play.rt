@@ -117,7 +117,7 @@ impl<'a> Player<'a> {
         }
     }
 
-    // Plays a paper of pairs whose left half is of the kind L.
+    // Plays a paper of pairs whose left half is of the kind L. A kind's name becomes a type by a match alone, here and in `play`.
     fn left<L: Simple>(&self, right: SimpleKind) -> Result<String, Failure<'a>> {
         match right {
             SimpleKind::Flag => self.pair::<L, Flag>(),

@@ -1,5 +1,6 @@
 // Work on rows of annotations place by place, over lent slices, proved once for every kind. Two rows go by `enumerate` and `get`:
-// of what is written through a `zip` over `iter_mut` a proof learns nothing.
+// of what is written through a `zip` over `iter_mut` a proof learns nothing. `add_row` and `add_scaled_row` are not one function over a
+// closure: its contract would range over the operations that the closure may stand for, and is longer than both loops.
 ghost use Rattle.std.specs.Prelude.{◌≡◌, min, length, slice_index_or};
 ghost use Rattle.rows.specs.Rows.{Rewritten};
 
