@@ -23,8 +23,8 @@ use text::numbers::number;
 use text::split::at_comma;
 use text::words::Word;
 
-/// A kind whose annotations a paper can write, and the program can tell in words.
-pub trait Item: Kind + Display {
+/// A kind whose annotations a paper can write.
+pub trait Item: Kind {
     // Which bytes write the annotation that a value stands for.
     ghost written: { List ℕ → Self → Type 0 };
 
@@ -33,8 +33,8 @@ pub trait Item: Kind + Display {
         ensures { IfOk result (written (word_bytes word.entry)) };
 }
 
-/// A kind without halves, and its map to flags.
-pub trait Simple: Item {
+/// A kind without halves, its words, and its map to flags.
+pub trait Simple: Item + Display {
     type ToFlag: Map<Self, Flag> + Drop;
 
     // What a paper calls a map.

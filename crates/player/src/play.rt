@@ -44,7 +44,7 @@ fn tell_both_ways<K: Kind + Display, L: Kind + Display>(
 }
 
 // Tells the items with their images, the joins, and whether mapping before and after agree.
-fn tell<K: Item, L: Kind + Display>(
+fn tell<K: Kind + Display, L: Kind + Display>(
     out: &mut String,
     items: &[K],
     c: &Coarsening<K, L>,
@@ -76,7 +76,7 @@ struct Player<'a> {
 
 impl<'a> Player<'a> {
     // Plays the paper under a map from K to L.
-    fn under<K: Item, L: Kind + Display, M: Map<K, L>>(
+    fn under<K: Item + Display, L: Kind + Display, M: Map<K, L>>(
         &self,
         map: &M,
     ) -> Result<String, Failure<'a>> {
