@@ -2,8 +2,9 @@
 // variable xj has bit j of i. Bits that are not closed upward stand for the function with the fewest ones that has all of theirs.
 #![tactic(auto)]
 
-ghost use Rattle.std.specs.Prelude.{◌≡◌, ℕ, ◌-◌, ◌^◌, ◌<◌, ◌≤◌, true, false, ◌&&◌, if◌then◌else◌, Decides, MatchOption, ◌≢◌, nat_lt};
+ghost use Rattle.std.specs.Prelude.{◌≡◌, ℕ, ◌-◌, ◌^◌, ◌<◌, ◌≤◌, true, false, ◌&&◌, if◌then◌else◌, Decides, MatchOption, Some, ◌≢◌, nat_lt};
 ghost use Rattle.truth_tables.specs.Monotone.{agree, always, never, or_of, and_of};
+ghost use Rattle.truth_tables.specs.Words.{together, words};
 ghost use Rattle.truth_tables.specs.Tables.{assignment, bit, code, function, least_at, set_without, Closed, Closes, Variable};
 
 use std::fmt;
@@ -117,6 +118,8 @@ impl TruthTable {
 
 /// The function in words: `never`, `always`, or the least sets of variables that make it true, as `x0 and x1 or x2`.
 impl fmt::Display for TruthTable {
+    ghost output = { λ t. Some (words (code (function t.bits))) };
+
     fn fmt<W: fmt::Write>(&self, f: &mut fmt::Formatter<W>) -> fmt::Result {
         let table = self.closed();
         match table.bits {
@@ -141,6 +144,8 @@ impl fmt::Display for TruthTable {
 struct Together(u8);
 
 impl fmt::Display for Together {
+    ghost output = { λ t. Some (together t.0) };
+
     fn fmt<W: fmt::Write>(&self, f: &mut fmt::Formatter<W>) -> fmt::Result {
         let mut and = "";
         for j in 0u8..6 {
