@@ -74,7 +74,7 @@ fn next<'a>(reader: &mut Reader<'a>, expected: Expected) -> Result<Word<'a>, Mis
     })
 }
 
-// The end of the line.
+// The end of the line. A match, since the word that stands there is the error.
 fn end<'a>(reader: &mut Reader<'a>) -> Result<(), Mistake<'a>>
     ensures { MatchResult result (λ _. NoWord (point reader.old) × (reader.new ≡ reader.old)) (λ _. NoWord (point reader.old) → ⊥) }
 {
