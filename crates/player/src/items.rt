@@ -1,5 +1,5 @@
 // Annotations as a paper writes them: a number, or two with a comma between them for a pair.
-ghost use Rattle.std.specs.Prelude.{◌≡◌, ◌≢◌, ℕ, min, List, ◌∷◌, ◌++◌, IfOk, MatchOption, MatchResult};
+ghost use Rattle.std.specs.Prelude.{◌≡◌, ℕ, min, List, ◌∷◌, ◌++◌, IfOk, MatchOption, MatchResult, refl};
 ghost use Rattle.grammar.specs.declared.names.SimpleMap.{SimpleMap as OneMap};
 ghost use Rattle.grammar.specs.declared.names.SimpleMap.TheVariants.{Present as CalledPresent, Cleared as CalledCleared, Under as CalledUnder};
 ghost use Rattle.truth_tables.specs.Tables.{code, function};
@@ -37,17 +37,17 @@ pub trait Item: Kind {
 pub trait Simple: Item + Display {
     type ToFlag: Map<Self, Flag> + Drop;
 
-    // What a paper calls a map.
-    ghost called: { Self.ToFlag → OneMap };
+    // What a paper calls a map, if it names it.
+    ghost called: { Self.ToFlag → OneMap → Type 0 };
 
     /// The map that a paper calls so, where it starts at this kind and has its number within its bounds.
     fn to_flag(map: SimpleMap) -> Option<Self::ToFlag>
-        ensures { MatchOption result ((m : Self.ToFlag) → called m ≢ map) (λ m. called m ≡ map) };
+        ensures { MatchOption result ((m : Self.ToFlag) → called m map → ⊥) (λ m. called m map) };
 }
 
-/// No map starts at flags.
+/// The map from flags to flags that changes nothing. No paper names it: none of the maps that papers name starts at flags.
 #[derive(Clone, Copy, Debug)]
-pub enum NoMap {}
+pub struct Unchanged;
 
 /// The annotation whose code the word writes; a mistake at the word where it writes none.
 pub fn coded_item<'a, K: Coded>(word: Word<'a>, kind: SimpleKind) -> Result<K, Mistake<'a>>
@@ -67,22 +67,22 @@ impl Item for Flag {
     }
 }
 
-impl Map<Flag, Flag> for NoMap {
+impl Map<Flag, Flag> for Unchanged {
     ghost image = { λ _ x. x };
 
-    ghost keeps = { λ m. elim m [ ] };
+    ghost keeps = { λ _. record { on = λ a. a; keeps = record { keeps_zero = refl; keeps_one = refl; keeps_plus = λ a b. refl; keeps_times = λ a b. refl }; agrees = λ x. refl } };
 
-    fn map(&self, _x: Flag) -> Flag {
-        match *self {}
+    fn map(&self, x: Flag) -> Flag {
+        x
     }
 }
 
 impl Simple for Flag {
-    type ToFlag = NoMap;
+    type ToFlag = Unchanged;
 
-    ghost called = { λ m. elim m [ ] };
+    ghost called = { λ _ _. ⊥ };
 
-    fn to_flag(_map: SimpleMap) -> Option<NoMap> {
+    fn to_flag(_map: SimpleMap) -> Option<Unchanged> {
         None
     }
 }
@@ -98,7 +98,7 @@ impl Item for Count {
 impl Simple for Count {
     type ToFlag = Present;
 
-    ghost called = { λ _. CalledPresent };
+    ghost called = { λ _ n. n ≡ CalledPresent };
 
     fn to_flag(map: SimpleMap) -> Option<Present> {
         match map {
@@ -119,7 +119,7 @@ impl Item for Clearance {
 impl Simple for Clearance {
     type ToFlag = Cleared;
 
-    ghost called = { λ m. CalledCleared (rank m.from) };
+    ghost called = { λ m n. n ≡ CalledCleared (rank m.from) };
 
     fn to_flag(map: SimpleMap) -> Option<Cleared> {
         match map {
@@ -140,7 +140,7 @@ impl Item for Condition {
 impl Simple for Condition {
     type ToFlag = Under;
 
-    ghost called = { λ m. CalledUnder m.at };
+    ghost called = { λ m n. n ≡ CalledUnder m.at };
 
     fn to_flag(map: SimpleMap) -> Option<Under> {
         match map {
