@@ -191,11 +191,17 @@ mod tests {
             left: both(YES, u32::MAX),
             right: Clearance::Secret,
         };
-        assert_eq!(rt; p.to_string(rt.alloc())?.as_str(), "((yes, 1000000), secret)");
+        assert_eq!(rt;
+            p.to_string(rt.alloc())?.as_str(),
+            "((yes, 1000000), secret)"
+        );
         assert_eq!(rt; condition(0).to_string(rt.alloc())?.as_str(), "never");
         assert_eq!(rt; condition(1).to_string(rt.alloc())?.as_str(), "always");
         assert_eq!(rt; condition(6).to_string(rt.alloc())?.as_str(), "x0 or x1");
-        assert_eq!(rt; condition(40).to_string(rt.alloc())?.as_str(), "x0 and x1 or x0 and x2");
+        assert_eq!(rt;
+            condition(40).to_string(rt.alloc())?.as_str(),
+            "x0 and x1 or x0 and x2"
+        );
         Ok(())
     }
 
