@@ -47,6 +47,7 @@ impl Refusal {
     pub fn number(self) -> u8
         ensures { result ≡ refusal_number self }
     {
+        // an enum's number is had by `as` alone
         self as u8
     }
 }

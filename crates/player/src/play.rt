@@ -3,7 +3,7 @@ ghost use Rattle.std.specs.Prelude.{◌≡◌, length, IfOk, vec_len};
 
 use crate::items::{Item, Simple};
 use grammar::mistakes::{Expected, Found, Mistake};
-use grammar::names::{KindName, MapName, SimpleKind};
+use grammar::names::{KindName, MapName, SimpleKind, SimpleMap};
 use kinds::clearances::Clearance;
 use kinds::conditions::Condition;
 use kinds::counts::Count;
@@ -17,7 +17,7 @@ use std::alloc::{AllocError, Global};
 use std::fmt::{Display, Write};
 use text::words::{Place, Word};
 
-// The annotations that the words write, in order.
+// The annotations that the words write, in order. A loop, since a closure cannot name the lifetime of the mistake that it would give.
 fn read_items<'a, K: Item>(heap: Global, words: &[Word<'a>]) -> Result<Vec<K>, Failure<'a>>
     ensures { IfOk result (λ v. vec_len v ≡ length words.now) }
 {
@@ -92,10 +92,21 @@ impl<'a> Player<'a> {
     // Plays a paper of the simple kind K.
     fn simple<K: Simple>(&self) -> Result<String, Failure<'a>> {
         let MapName::Direct(map) = self.paper.map else {
-            return Err(Failure::Mistake(no_map()));
+            return Err(no_map().into());
         };
         let map = K::to_flag(map).ok_or(no_map())?;
         self.under::<K, Flag, _>(&map)
+    }
+
+    // Plays the paper under the map to a half of the kind H, and then H's own map to flags.
+    fn chained<P: Item + Display, H: Simple, M: Map<P, H> + Drop>(
+        &self,
+        half: M,
+        then: SimpleMap,
+    ) -> Result<String, Failure<'a>> {
+        let then = H::to_flag(then).ok_or(no_map())?;
+        let map: Chain<M, H::ToFlag, H> = Chain::new(half, then);
+        self.under::<P, Flag, _>(&map)
     }
 
     // Plays a paper of pairs of L and R.
@@ -103,17 +114,9 @@ impl<'a> Player<'a> {
         match self.paper.map {
             MapName::Left(None) => self.under::<Pair<L, R>, L, _>(&Left),
             MapName::Right(None) => self.under::<Pair<L, R>, R, _>(&Right),
-            MapName::Left(Some(then)) => {
-                let then = L::to_flag(then).ok_or(no_map())?;
-                let map: Chain<Left, L::ToFlag, L> = Chain::new(Left, then);
-                self.under::<Pair<L, R>, Flag, _>(&map)
-            }
-            MapName::Right(Some(then)) => {
-                let then = R::to_flag(then).ok_or(no_map())?;
-                let map: Chain<Right, R::ToFlag, R> = Chain::new(Right, then);
-                self.under::<Pair<L, R>, Flag, _>(&map)
-            }
-            MapName::Direct(_) => Err(Failure::Mistake(no_map())),
+            MapName::Left(Some(then)) => self.chained::<Pair<L, R>, L, _>(Left, then),
+            MapName::Right(Some(then)) => self.chained::<Pair<L, R>, R, _>(Right, then),
+            MapName::Direct(_) => Err(no_map().into()),
         }
     }
 

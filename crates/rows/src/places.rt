@@ -1,6 +1,7 @@
 // Work on rows of annotations place by place, over lent slices, proved once for every kind. Two rows go by `enumerate` and `get`:
 // of what is written through a `zip` over `iter_mut` a proof learns nothing. `add_row` and `add_scaled_row` are not one function over a
-// closure: its contract would range over the operations that the closure may stand for, and is longer than both loops.
+// closure, nor `scale_row` and `clear_row`: its contract would range over the operations that the closure may stand for, and is longer
+// than the loops. `clear_row` is no `fill`, which asks that a clone cannot fail, as no kind says.
 ghost use Rattle.std.specs.Prelude.{◌≡◌, min, length, slice_index_or};
 ghost use Rattle.rows.specs.Rows.{Rewritten};
 
