@@ -167,10 +167,7 @@ impl fmt::Display for Misfit {
             Some(start) => write!(f, "which starts at {start}")?,
             None => f.write_str("which starts at a pair")?,
         }
-        let part = self.part;
-        let kind = self.kind;
-        let remedy = self.remedy();
-        write!(f, ", but {part} is {kind}; {remedy}")
+        write!(f, ", but {} is {}; {}", self.part, self.kind, self.remedy())
     }
 }
 
@@ -179,17 +176,16 @@ impl fmt::Display for Expected {
         if let Expected::Fitting(misfit) = *self {
             return write!(f, "{misfit}");
         }
-        let words = self.words();
-        write!(f, "expected {words}")
+        write!(f, "expected {}", self.words())
     }
 }
 
 impl fmt::Display for Mistake<'_> {
     fn fmt<W: fmt::Write>(&self, f: &mut fmt::Formatter<W>) -> fmt::Result {
-        let line = self.place.line;
-        let column = self.place.column;
-        let found = self.found;
-        let expected = self.expected;
-        write!(f, "line {line}, column {column}: found {found}, {expected}")
+        write!(
+            f,
+            "line {}, column {}: found {}, {}",
+            self.place.line, self.place.column, self.found, self.expected
+        )
     }
 }

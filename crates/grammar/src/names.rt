@@ -49,7 +49,7 @@ pub enum MapWord {
     Right,
 }
 
-/// What a paper names by a word, each value by one of its own.
+/// What a paper names by a word.
 pub trait Keyword: Copy + 'static {
     ghost bytes: { Self → List ℕ };
 
@@ -126,6 +126,14 @@ impl fmt::Display for SimpleKind {
     }
 }
 
+impl fmt::Display for MapWord {
+    ghost output = { λ m. Some (map_bytes m) };
+
+    fn fmt<W: fmt::Write>(&self, f: &mut fmt::Formatter<W>) -> fmt::Result {
+        f.write_str(self.word())
+    }
+}
+
 impl fmt::Display for KindName {
     ghost output = { λ k. Some (kind_words k) };
 
@@ -185,9 +193,9 @@ impl MapName {
 impl fmt::Display for SimpleMap {
     fn fmt<W: fmt::Write>(&self, f: &mut fmt::Formatter<W>) -> fmt::Result {
         match *self {
-            SimpleMap::Present => f.write_str("present"),
-            SimpleMap::Cleared(c) => write!(f, "cleared {c}"),
-            SimpleMap::Under(b) => write!(f, "under {b}"),
+            SimpleMap::Present => write!(f, "{}", MapWord::Present),
+            SimpleMap::Cleared(c) => write!(f, "{} {c}", MapWord::Cleared),
+            SimpleMap::Under(b) => write!(f, "{} {b}", MapWord::Under),
         }
     }
 }
@@ -196,10 +204,10 @@ impl fmt::Display for MapName {
     fn fmt<W: fmt::Write>(&self, f: &mut fmt::Formatter<W>) -> fmt::Result {
         match *self {
             MapName::Direct(m) => write!(f, "{m}"),
-            MapName::Left(None) => f.write_str("left"),
-            MapName::Right(None) => f.write_str("right"),
-            MapName::Left(Some(m)) => write!(f, "left then {m}"),
-            MapName::Right(Some(m)) => write!(f, "right then {m}"),
+            MapName::Left(None) => write!(f, "{}", MapWord::Left),
+            MapName::Right(None) => write!(f, "{}", MapWord::Right),
+            MapName::Left(Some(m)) => write!(f, "{} then {m}", MapWord::Left),
+            MapName::Right(Some(m)) => write!(f, "{} then {m}", MapWord::Right),
         }
     }
 }

@@ -51,9 +51,6 @@ module _ {p : Point} where
   no_kind_word h (Simple k) q s = h s.0 q s.1
   no_kind_word h (Pair a b) q s = h s.2.0 s.0 s.2.1
 
-  pub no_half_word : ((w : Word) (s : Point) → WordNext p w s → ⊥) → (k : SimpleKind) (q : Point) → Says p (kind_bytes k) q → ⊥
-  no_half_word h k q s = h s.0 q s.1
-
   pub no_number_word : (low high : ℕ) → ((w : Word) (s : Point) → WordNext p w s → ⊥) → (n : ℕ) (q : Point) → WithinNext low high p n q → ⊥
   no_number_word low high h n q s = h s.0.0 q s.0.1
 

@@ -48,13 +48,13 @@ impl Place {
 fn is_blank(b: u8) -> bool
     ensures { result ≡ blank b }
 {
-    b == b' ' || b == b'\t' || b == b'\r'
+    matches!(b, b' ' | b'\t' | b'\r')
 }
 
 fn is_inside(b: u8) -> bool
     ensures { result ≡ inside b }
 {
-    !is_blank(b) && b != b'#' && b != b'\n'
+    !is_blank(b) && !matches!(b, b'#' | b'\n')
 }
 
 impl<'a> Reader<'a> {

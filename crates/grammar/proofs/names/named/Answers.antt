@@ -4,10 +4,10 @@ use Rattle.std.proofs.iter.runs.Made.{chains}
 use Rattle.grammar.proofs.names.named.Goals as goal
 
 -- the word is that of none of the list
-abbrev None_of : {K : Type 0} → (K → List ℕ) → List K → List ℕ → Type 0
-None_of {K} bytes all word = (i : ℕ) (d : K) → i < length all → word ≢ bytes (slice_index_or all i d)
+abbrev NoneOf : {K : Type 0} → (K → List ℕ) → List K → List ℕ → Type 0
+NoneOf {K} bytes all word = (i : ℕ) (d : K) → i < length all → word ≢ bytes (slice_index_or all i d)
 
-of_none : {K : Type 0} (bytes : K → List ℕ) (all : List K) (word : List ℕ) (r : Option K) → ((k : K) → Contains all k) → MatchOption r (None_of bytes all word) (λ k. word ≡ bytes k) → MatchOption r ((k : K) → word ≢ bytes k) (λ k. word ≡ bytes k)
+of_none : {K : Type 0} (bytes : K → List ℕ) (all : List K) (word : List ℕ) (r : Option K) → ((k : K) → Contains all k) → MatchOption r (NoneOf bytes all word) (λ k. word ≡ bytes k) → MatchOption r ((k : K) → word ≢ bytes k) (λ k. word ≡ bytes k)
 of_none bytes all word None each h = λ k e. let at = each k in h at.0 k at.1 (e ∙ sym (ap bytes at.2))
 of_none bytes all word (Some k) each h = h
 
