@@ -52,7 +52,7 @@ impl Coded for Condition {
         ensures cases { MatchOption result (Closed number → ⊥) (λ v. Closed number × (v.bits ≡ number)) }
     {
         let table = Condition { bits: number };
-        if table.is_closed() { Some(table) } else { None }
+        table.is_closed().then_some(table)
     }
 
     fn code(self) -> u64 {
@@ -60,7 +60,7 @@ impl Coded for Condition {
     }
 }
 
-/// The condition that variable j is true, for j from 0 to 5.
+/// The condition that variable j is true, for j from 0 to 5: `Condition::variable` under a name of this crate, for those who know kinds alone.
 pub fn variable(j: usize) -> Option<Condition>
     ensures { MatchOption result (6 ≤ j) (λ c. Variable j c.bits) }
 {

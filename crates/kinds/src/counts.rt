@@ -67,10 +67,10 @@ impl Coded for Count {
     ghost one_code = { record { same_code = λ x y e. fst_path e; same_meaning = λ x y e. by_number e } };
 
     fn read(code: u64) -> Option<Count> {
-        match u32::try_from(code) {
-            Ok(times) if times <= MOST => Some(Count { times }),
-            _ => None,
-        }
+        u32::try_from(code)
+            .ok()
+            .filter(|times| *times <= MOST)
+            .map(|times| Count { times })
     }
 
     fn code(self) -> u64 {

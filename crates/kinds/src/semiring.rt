@@ -22,7 +22,8 @@ pub trait Kind: Copy {
     fn times(self, other: Self) -> Self
         ensures { means result ≡ ring.times (means self) (means other) };
 
-    /// Whether the two stand for one annotation. It is not `PartialEq`, whose `==` would compare plain values that several may stand for one.
+    /// Whether the two stand for one annotation. It is not `PartialEq`: as a bound that would ask more of each kind,
+    /// and a further law would have to tie its `eq` to what values mean.
     fn same(self, other: Self) -> bool
         ensures { result ≡ ring.same (means self) (means other) };
 

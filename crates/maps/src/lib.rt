@@ -59,9 +59,11 @@ pub struct Cleared {
 
 impl Cleared {
     /// The map from this rank up, or none unless it is from 1 to 4.
+    // A number, since a clearance here would ask more of callers.
     pub fn new(from: u8) -> Option<Cleared>
         ensures { MatchOption result ((1 ≤ from → from ≤ 4 → ⊥)) (λ m. rank m.from ≡ from) }
     {
+        // A match, since in a closure of `map` nothing says that the clearance is not none.
         match Clearance::read(u64::from(from)) {
             None | Some(Clearance::None) => None,
             Some(from) => Some(Cleared { from }),
@@ -93,6 +95,7 @@ impl Under {
     pub fn new(at: u8) -> Option<Under>
         ensures { MatchOption result (64 ≤ at) (λ m. m.at ≡ at) }
     {
+        // An `if`, since in a closure of `then` nothing says that the number is below 64.
         if at < 64 { Some(Under { at }) } else { None }
     }
 }

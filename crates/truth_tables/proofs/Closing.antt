@@ -1,5 +1,5 @@
 -- Closing 64 bits upward: the six steps of the program, the function that bits stand for, and the bits of a function.
-use Rattle.std.proofs.Common.{◌≡◌, ℕ, zero, suc, ◌-◌, ◌*◌, ◌%◌, ◌^◌, ◌<◌, Bool, true, false, cond, ◌&&◌, ◌||◌, eqb, ltb, leb, Decides, sym, refl, ap, ◌∙◌, ap₂, ⊎_elim, lt_of_le_of_lt, mod-eq_of_lt, arith}
+use Rattle.std.proofs.Common.{◌≡◌, ℕ, zero, suc, List, [], ◌∷◌, get_or, add-one, ◌+◌, ◌-◌, ◌*◌, ◌%◌, ◌^◌, ◌<◌, Bool, true, false, cond, ◌&&◌, ◌||◌, eqb, ltb, leb, Decides, sym, refl, ap, ◌∙◌, ap₂, ⊎_elim, lt_of_le_of_lt, mod-eq_of_lt, arith}
 use mathlib.Core.Path.{fun_ext}
 use mathlib.Core.Bool.{So}
 use Rattle.std.proofs.lemmas.Bool.Decides.{same_from_decides, Decides-eqb, Decides-like}
@@ -33,11 +33,17 @@ by_table (suc n) f g e (a, true) = by_table n (λ b. f (b, true)) (λ b. g (b, t
 abbrev pub step : ℕ → ℕ → (ℕ → Bool) → ℕ → Bool
 step v s f i = cond (bit v i) (f (i - s) || f i) (f i)
 
-abbrev pub steps : (ℕ → Bool) → ℕ → Bool
-steps f = step 0xFFFFFFFF00000000 32 (step 0xFFFF0000FFFF0000 16 (step 0xFF00FF00FF00FF00 8 (step 0xF0F0F0F0F0F0F0F0 4 (step 0xCCCCCCCCCCCCCCCC 2 (step 0xAAAAAAAAAAAAAAAA 1 f)))))
+-- the tables of the six variables
+abbrev pub masks : List ℕ
+masks = 0xAAAAAAAAAAAAAAAA ∷ 0xCCCCCCCCCCCCCCCC ∷ 0xF0F0F0F0F0F0F0F0 ∷ 0xFF00FF00FF00FF00 ∷ 0xFFFF0000FFFF0000 ∷ 0xFFFFFFFF00000000 ∷ []
 
-pub steps_raise : (f : ℕ → Bool) (a : Assignment 6) → steps f (index 6 a) ≡ raised 6 (λ b. f (index 6 b)) a
-steps_raise f = by_table 6 (λ a. steps f (index 6 a)) (raised 6 (λ b. f (index 6 b))) refl
+-- the first n steps
+abbrev pub steps : ℕ → (ℕ → Bool) → ℕ → Bool
+steps zero f = f
+steps (suc n) f = step (get_or masks n 0) (2 ^ n) (steps n f)
+
+pub steps_raise : (f : ℕ → Bool) (a : Assignment 6) → steps 6 f (index 6 a) ≡ raised 6 (λ b. f (index 6 b)) a
+steps_raise f = by_table 6 (λ a. steps 6 f (index 6 a)) (raised 6 (λ b. f (index 6 b))) refl
 
 -- x has 64 bits, and they are f
 pub record Has (x : ℕ) (f : ℕ → Bool) : Type 0 where
@@ -63,6 +69,25 @@ has_step v s x f t h =
           ∙ pick (bit v i) (bit x i) (bit shifted i) (bit x (i - s)) (λ b. bit_shl x s i (leb-true s i (and_parts (bit v i) (leb s i) (agree_below_at (λ n. bit v n && leb s n) (bit v) 64 i mask.1 k ∙ b)).1) k)
           ∙ ap₂ (λ p q. cond (bit v i) (p || q) q) (h.bits (i - s) (omega arith)) (h.bits i k);
     }
+
+-- each mask has 64 bits, and none below its shift, which is below 64
+abbrev masked : ℕ → Bool
+masked j = above (get_or masks j 0) (2 ^ j) && (ltb (2 ^ j) 64 && eqb (1 * 2 ^ j % 2 ^ 32) (2 ^ j))
+
+all_masked : agree_below masked (λ _. true) 6 ≡ true
+all_masked = refl
+
+mask_parts : (j : ℕ) → j < 6 → So (above (get_or masks j 0) (2 ^ j)) × So (ltb (2 ^ j) 64 && eqb (1 * 2 ^ j % 2 ^ 32) (2 ^ j))
+mask_parts j h = and_parts (above (get_or masks j 0) (2 ^ j)) (ltb (2 ^ j) 64 && eqb (1 * 2 ^ j % 2 ^ 32) (2 ^ j)) (agree_below_at masked (λ _. true) 6 j all_masked h)
+
+pub shift_is : (j : ℕ) → j < 6 → 1 * 2 ^ j % 2 ^ 32 ≡ 2 ^ j
+shift_is j h = (Decides-eqb (1 * 2 ^ j % 2 ^ 32) (2 ^ j)).0 (and_parts (ltb (2 ^ j) 64) (eqb (1 * 2 ^ j % 2 ^ 32) (2 ^ j)) (mask_parts j h).1).1
+
+pub shift_lt : (j : ℕ) → j < 6 → 1 * 2 ^ j % 2 ^ 32 < 64
+shift_lt j h = rw (shift_is j h) (ltb-true (2 ^ j) 64 (and_parts (ltb (2 ^ j) 64) (eqb (1 * 2 ^ j % 2 ^ 32) (2 ^ j)) (mask_parts j h).1).0)
+
+pub one_more : (j x : ℕ) (f : ℕ → Bool) → j < 6 → Has x (steps j f) → Has (bit_or x (bit_and ((x * 2 ^ (1 * 2 ^ j % 2 ^ 32)) % 2 ^ 64) (get_or masks j 0))) (steps (j + 1) f)
+one_more j x f h k = rw (add-one j, shift_is j h) (has_step (get_or masks j 0) (2 ^ j) x (steps j f) (mask_parts j h).0 k)
 
 pub function_or : (x y : ℕ) → function (bit_or x y) ≡ or_of 6 (function x) (function y)
 unfolding function

@@ -1,11 +1,8 @@
--- The six variables: one test at each of the 384 places, which the checker computes.
-use Rattle.std.proofs.Common.{◌≡◌, ℕ, ◌<◌, Bool, true, List, [], ◌∷◌, get_or, sym, refl, ◌∙◌}
+-- The six variables: two tests, of bits and of values, each at 6 × 64 places, which the checker computes.
+use Rattle.std.proofs.Common.{◌≡◌, ℕ, ◌<◌, Bool, true, get_or, sym, refl, ◌∙◌}
 use Rattle.std.proofs.lemmas.Bool.{agree_below, agree_below_at}
 use Rattle.truth_tables.specs.Tables.{bit, assignment, function, Variable}
-use Rattle.truth_tables.proofs.Closing.{bits_close, values_bits}
-
-abbrev pub masks : List ℕ
-masks = 0xAAAAAAAAAAAAAAAA ∷ 0xCCCCCCCCCCCCCCCC ∷ 0xF0F0F0F0F0F0F0F0 ∷ 0xFF00FF00FF00FF00 ∷ 0xFFFF0000FFFF0000 ∷ 0xFFFFFFFF00000000 ∷ []
+use Rattle.truth_tables.proofs.Closing.{masks, bits_close, values_bits}
 
 -- the table of variable j has its bits, and stands for a function with its values
 abbrev same_bits : ℕ → Bool

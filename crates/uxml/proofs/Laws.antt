@@ -1,33 +1,23 @@
 -- The laws of the definitions, each in the form in which it is stated.
-use Rattle.std.proofs.Common.{◌≡◌, ℕ, Bool, true, false, cond, eqb, get_or, Decides, sym, refl, ap, ◌∙◌}
+use Rattle.std.proofs.Common.{◌≡◌, ℕ, Decides, sym, refl, ap, ◌∙◌}
 use Rattle.kinds.specs.Semiring.{Semiring, Lawful}
-use Rattle.formats.specs.Trees.{Forest, tree, empty, label, children, In}
-use Rattle.formats.specs.Queries.{Query, none, document, tree_of, held, both, scaled, make, named, child, below, only_of, for_each, let_be, if_name, if_alike}
+use Rattle.formats.specs.Trees.{Forest, tree, children, In}
+use Rattle.formats.specs.Queries.{Query, both, scaled, child, below, only_of, for_each}
 use Rattle.uxml.specs.Forests.{TreeOf as T, ForestOf as F, total, same_tree, at, Equal, sum_over, single, below_tree, below_each}
 use Rattle.uxml.specs.Normal.{Normal, NormalTree, node, nil}
 use Rattle.uxml.specs.Images.{image}
-use Rattle.uxml.specs.Evaluation.{Bound, a_tree, a_forest, bound_tree, Scope, Answer, after, evaluate, binding, the_tree, the_item}
-use Rattle.uxml.specs.Equality.{no_more, and_each, Same, NormalBound, of_tree, of_forest, NormalScope}
-use Rattle.uxml.specs.Laws.{Equivalence, ListsItsTrees, MakesNormal, gives, one_at, sum_at, GivesNothing, GivesADocument, GivesATree, GivesAForest, GivesTheSum, GivesTheMultiple, GivesANewTree, GivesANamedTree, GivesTheChildren, GivesAllBelow, GivesThoseLabelled, GivesForEach, GivesWithTheForest, GivesByLabel, GivesByTwoLabels, IsAllBelow, AddsImages}
+use Rattle.uxml.specs.Evaluation.{Bound, a_tree, Scope, binding, the_item}
+use Rattle.uxml.specs.Equality.{no_more, and_each, Same, NormalBound, of_tree, NormalScope}
+use Rattle.uxml.specs.Laws.{Equivalence, ListsItsTrees, MakesNormal, gives, one_at, sum_at, GivesTheSum, GivesTheMultiple, GivesTheChildren, GivesAllBelow, GivesThoseLabelled, GivesForEach, IsAllBelow, AddsImages}
 use Rattle.uxml.proofs.Same.{tree_ind, same_refl, same_sym, same_trans, same_parts}
 use Rattle.uxml.proofs.Total.{at_in, nonzero_in, in_node, normal_in, total_ext, total_add, total_union, total_scale, total_sum, at_linear, at_steady, at_only, keep_add, keep_sum, below_sum}
 use Rattle.uxml.proofs.Order.{find_in, same_from_equal, equal_from_same}
 use Rattle.uxml.proofs.Image.{keep_image, at_image}
-use Rattle.uxml.proofs.Known.{each_at, each_append}
+use Rattle.uxml.proofs.Known.{each_append}
 use Rattle.uxml.proofs.Identity.{answers_normal}
-
-bound_tree_normal : {K : Semiring} {b : Bound K.carrier} → NormalBound K b → NormalTree K (bound_tree b)
-bound_tree_normal (of_tree m) = m
-bound_tree_normal (of_forest m) = node nil
 
 children_normal : {K : Semiring} {t : T K} → NormalTree K t → Normal K (children t)
 children_normal (node n) = n
-
--- what the chosen of two answers gives
-chosen : (K : Semiring) (b : Bool) (x y : Answer K.carrier) (v : T K)
-    → at K (after (λ f. f) (elim b [ true ↦ x | false ↦ y ])).forest v ≡ cond b (at K x.forest v) (at K y.forest v)
-chosen K true x y v = refl
-chosen K false x y v = refl
 
 module _ {K : Semiring} (K✓ : Lawful K) where
   pub equivalence : Equivalence (Same K)
@@ -58,9 +48,6 @@ module _ {K : Semiring} (K✓ : Lawful K) where
         → at K (sum_over K g f) v ≡ sum_at K f (λ t. at K (g t) v)
     at_sum_over g k v = total_sum K✓ K✓ (at_linear K✓ v) (λ t j. at_steady K✓ v t) g f k ∙ sum_is (λ t. at K (g t) v)
 
-  at_single : (t v : T K) → at K (single K t) v ≡ one_at K t v
-  at_single t v = total_add K✓ K✓ (at_linear K✓ v) t K.one (at_steady K✓ v t) nil ∙ K✓.plus_zero _
-
   pub all_below : IsAllBelow K (below_tree K)
   all_below (tree l f) n v =
       let m = in_node n in
@@ -68,17 +55,8 @@ module _ {K : Semiring} (K✓ : Lawful K) where
       total_add K✓ K✓ (at_linear K✓ v) (tree l f) K.one {f = below_each K f} (at_steady K✓ v (tree l f)) (rw (below_sum K f) (keep_sum K✓ (below_tree K) f k))
       ∙ ap (K.plus (one_at K (tree l f) v)) (ap (λ g. at K g v) (below_sum K f) ∙ at_sum_over m (below_tree K) k v)
 
-  -- the variables and slots of a normal scope are normal
+  -- what queries give in a normal scope is normal
   module _ {s : Scope K.carrier} (n : NormalScope K s) where
-    slot_normal : (i : ℕ) → Normal K (get_or s.slots i empty)
-    slot_normal = each_at (Normal K) nil n.slots
-
-    bound_normal : (x : ℕ) → NormalBound K (get_or s.bound x (a_forest empty))
-    bound_normal = each_at (NormalBound K) (of_forest nil) n.bound
-
-    the_tree_normal : (x : ℕ) → NormalTree K (the_tree K s x)
-    the_tree_normal x = bound_tree_normal (bound_normal x)
-
     binding_normal : {b : Bound K.carrier} → NormalBound K b → NormalScope K (binding s b)
     binding_normal m = record { slots = n.slots; bound = each_append n.bound (and_each m no_more) }
 
@@ -89,29 +67,11 @@ module _ {K : Semiring} (K✓ : Lawful K) where
     tree_scope : (q : Query) (t : T K) (a : K.carrier) → In t a (gives K q s) → NormalScope K (binding s (a_tree t))
     tree_scope q t a i = binding_normal (of_tree (normal_in i (gives_normal q)))
 
-  pub gives_nothing : GivesNothing K none
-  gives_nothing s n v = refl
-
-  pub gives_a_document : GivesADocument K document
-  gives_a_document i s n v = refl
-
-  pub gives_a_tree : GivesATree K tree_of
-  gives_a_tree x s n v = at_single (the_tree K s x) v
-
-  pub gives_a_forest : GivesAForest K held
-  gives_a_forest x s n v = refl
-
   pub gives_the_sum : GivesTheSum K both
   gives_the_sum e f s n v = total_union K✓ K✓ (at_linear K✓ v) (λ t k. at_steady K✓ v t) (gives_normal n e) (gives_normal n f)
 
   pub gives_the_multiple : GivesTheMultiple K scaled
   gives_the_multiple i e s n v = total_scale K✓ K✓ (at_linear K✓ v) (the_item K s i) (gives K e s) ∙ K✓.times_comm _ _
-
-  pub gives_a_new_tree : GivesANewTree K make
-  gives_a_new_tree l e s n v = at_single (tree l (gives K e s)) v
-
-  pub gives_a_named_tree : GivesANamedTree K named
-  gives_a_named_tree x e s n v = at_single (tree (label (the_tree K s x)) (gives K e s)) v
 
   pub gives_the_children : GivesTheChildren K child
   gives_the_children e s n v = let m = gives_normal n e in at_sum_over m children (λ t a i. children_normal (normal_in i m)) v
@@ -125,15 +85,6 @@ module _ {K : Semiring} (K✓ : Lawful K) where
   pub gives_for_each : GivesForEach K for_each
   gives_for_each e f s n v =
       at_sum_over (gives_normal n e) (λ t. gives K f (binding s (a_tree t))) (λ t a i. gives_normal (tree_scope n e t a i) f) v
-
-  pub gives_with_the_forest : GivesWithTheForest K let_be
-  gives_with_the_forest e f s n v = refl
-
-  pub gives_by_label : GivesByLabel K if_name
-  gives_by_label x l e f s n v = chosen K (eqb (label (the_tree K s x)) l) (evaluate K e s) (evaluate K f s) v
-
-  pub gives_by_two_labels : GivesByTwoLabels K if_alike
-  gives_by_two_labels x y e f s n v = chosen K (eqb (label (the_tree K s x)) (label (the_tree K s y))) (evaluate K e s) (evaluate K f s) v
 
 pub adds_images : {A : Type 0} {L : Semiring} (L✓ : Lawful L) (h : A → L.carrier) (f : Forest A) → AddsImages L h f (image L h f)
 adds_images L✓ h f = record { normal = keep_image L✓ h f; sums = at_image L✓ h f }

@@ -1,19 +1,20 @@
-use Rattle.std.proofs.Common.{rules, refl, ◌∙◌}
+use Rattle.std.proofs.Common.{rules, ◌≡◌, ◌∙◌, subst}
 use Rattle.truth_tables.specs.Tables.{bit, index, function}
 use Rattle.truth_tables.proofs.Bitwise.{index_lt}
-use Rattle.truth_tables.proofs.Closing.{BitsOf, Has, steps, has_step, steps_raise, bits_code, bits_close}
+use Rattle.truth_tables.proofs.Closing.{BitsOf, Has, steps, steps_raise, shift_lt, one_more, bits_code, bits_close}
 use Rattle.truth_tables.proofs.TruthTable.closed.Goals as goal
+
+pub overflow_shl-x-in-loop-j : goal.overflow_shl-x-in-loop-j
+overflow_shl-x-in-loop-j c = shift_lt c.loop-j.j (search rules)
+
+pub loop-j-preserved : goal.loop-j-preserved
+loop-j-preserved c = one_more c.loop-j.j c.loop-j.x (bit c.args.self.bits) (search rules) c.loop-j.invariant
 
 pub returns : goal.returns
 unfolding function
 returns c =
     let x = c.args.self.bits in
-    let has : Has _ (steps (bit x)) =
-    has_step 0xFFFFFFFF00000000 32 _ _ refl
-    (has_step 0xFFFF0000FFFF0000 16 _ _ refl
-    (has_step 0xFF00FF00FF00FF00 8 _ _ refl
-    (has_step 0xF0F0F0F0F0F0F0F0 4 _ _ refl
-    (has_step 0xCCCCCCCCCCCCCCCC 2 _ _ refl
-    (has_step 0xAAAAAAAAAAAAAAAA 1 x (bit x) refl (record { fits = search rules; bits = λ i h. refl })))))) in
+    let all : c.loop-j.j ≡ 6 = search rules in
+    let has : Has c.loop-j.x (steps 6 (bit x)) = subst (λ n. Has c.loop-j.x (steps n (bit x))) all c.loop-j.invariant in
     let bits : BitsOf x _ = λ a. has.bits (index 6 a) (index_lt 6 a) ∙ steps_raise (bit x) a in
     record { code = bits_code x _ has.fits bits; closes = bits_close x _ bits }

@@ -1,7 +1,8 @@
 use Rattle.std.proofs.Common.{rules, ◌≡◌, ◌≤◌, ◌<◌, ℕ, Option, Some, None, MatchOption, IsSomeAnd, Bor, get_or}
 use Rattle.truth_tables.specs.declared.TruthTable.{TruthTable}
 use Rattle.truth_tables.specs.Tables.{Variable}
-use Rattle.truth_tables.proofs.Variables.{masks, variable_at}
+use Rattle.truth_tables.proofs.Closing.{masks}
+use Rattle.truth_tables.proofs.Variables.{variable_at}
 use Rattle.truth_tables.proofs.TruthTable.variable.Goals as goal
 
 at_option : (j : ℕ) (o : Option (Bor ℕ)) (r : Option TruthTable)
