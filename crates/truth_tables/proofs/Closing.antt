@@ -72,21 +72,21 @@ has_step v s x f t h =
 
 -- each mask has 64 bits, and none below its shift, which is below 64
 abbrev masked : ℕ → Bool
-masked j = above (get_or masks j 0) (2 ^ j) && (ltb (2 ^ j) 64 && eqb (1 * 2 ^ j % 2 ^ 32) (2 ^ j))
+masked j = above (get_or masks j 0) (2 ^ j) && (ltb (2 ^ j) 64 && eqb (1 * 2 ^ j % 2 ^ 64) (2 ^ j))
 
 all_masked : agree_below masked (λ _. true) 6 ≡ true
 all_masked = refl
 
-mask_parts : (j : ℕ) → j < 6 → So (above (get_or masks j 0) (2 ^ j)) × So (ltb (2 ^ j) 64 && eqb (1 * 2 ^ j % 2 ^ 32) (2 ^ j))
-mask_parts j h = and_parts (above (get_or masks j 0) (2 ^ j)) (ltb (2 ^ j) 64 && eqb (1 * 2 ^ j % 2 ^ 32) (2 ^ j)) (agree_below_at masked (λ _. true) 6 j all_masked h)
+mask_parts : (j : ℕ) → j < 6 → So (above (get_or masks j 0) (2 ^ j)) × So (ltb (2 ^ j) 64 && eqb (1 * 2 ^ j % 2 ^ 64) (2 ^ j))
+mask_parts j h = and_parts (above (get_or masks j 0) (2 ^ j)) (ltb (2 ^ j) 64 && eqb (1 * 2 ^ j % 2 ^ 64) (2 ^ j)) (agree_below_at masked (λ _. true) 6 j all_masked h)
 
-pub shift_is : (j : ℕ) → j < 6 → 1 * 2 ^ j % 2 ^ 32 ≡ 2 ^ j
-shift_is j h = (Decides-eqb (1 * 2 ^ j % 2 ^ 32) (2 ^ j)).0 (and_parts (ltb (2 ^ j) 64) (eqb (1 * 2 ^ j % 2 ^ 32) (2 ^ j)) (mask_parts j h).1).1
+pub shift_is : (j : ℕ) → j < 6 → 1 * 2 ^ j % 2 ^ 64 ≡ 2 ^ j
+shift_is j h = (Decides-eqb (1 * 2 ^ j % 2 ^ 64) (2 ^ j)).0 (and_parts (ltb (2 ^ j) 64) (eqb (1 * 2 ^ j % 2 ^ 64) (2 ^ j)) (mask_parts j h).1).1
 
-pub shift_lt : (j : ℕ) → j < 6 → 1 * 2 ^ j % 2 ^ 32 < 64
-shift_lt j h = rw (shift_is j h) (ltb-true (2 ^ j) 64 (and_parts (ltb (2 ^ j) 64) (eqb (1 * 2 ^ j % 2 ^ 32) (2 ^ j)) (mask_parts j h).1).0)
+pub shift_lt : (j : ℕ) → j < 6 → 1 * 2 ^ j % 2 ^ 64 < 64
+shift_lt j h = rw (shift_is j h) (ltb-true (2 ^ j) 64 (and_parts (ltb (2 ^ j) 64) (eqb (1 * 2 ^ j % 2 ^ 64) (2 ^ j)) (mask_parts j h).1).0)
 
-pub one_more : (j x : ℕ) (f : ℕ → Bool) → j < 6 → Has x (steps j f) → Has (bit_or x (bit_and ((x * 2 ^ (1 * 2 ^ j % 2 ^ 32)) % 2 ^ 64) (get_or masks j 0))) (steps (j + 1) f)
+pub one_more : (j x : ℕ) (f : ℕ → Bool) → j < 6 → Has x (steps j f) → Has (bit_or x (bit_and ((x * 2 ^ (1 * 2 ^ j % 2 ^ 64)) % 2 ^ 64) (get_or masks j 0))) (steps (j + 1) f)
 one_more j x f h k = rw (add-one j, shift_is j h) (has_step (get_or masks j 0) (2 ^ j) x (steps j f) (mask_parts j h).0 k)
 
 pub function_or : (x y : ℕ) → function (bit_or x y) ≡ or_of 6 (function x) (function y)

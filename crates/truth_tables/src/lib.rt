@@ -32,8 +32,8 @@ impl TruthTable {
         ensures closes { Closes self.bits result.bits }
     {
         let mut x = self.bits;
-        for j in 0u32..6 {
-            x |= (x << (1u32 << j)) & VARIABLES[j as usize];
+        for (j, variable) in VARIABLES.iter().enumerate() {
+            x |= (x << (1usize << j)) & *variable;
         }
         TruthTable { bits: x }
     }
