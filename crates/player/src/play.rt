@@ -109,7 +109,7 @@ impl<'a> Player<'a> {
         self.under::<P, Flag, _>(&map)
     }
 
-    // Plays a paper of pairs of L and R.
+    // Plays a paper of pairs of L and R. A match, since each arm is a map of another type.
     fn pair<L: Simple, R: Simple>(&self) -> Result<String, Failure<'a>> {
         match self.paper.map {
             MapName::Left(None) => self.under::<Pair<L, R>, L, _>(&Left),

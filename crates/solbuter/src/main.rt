@@ -40,6 +40,7 @@ fn show(rt: &HostRuntime, name: &str, text: &[u8]) -> anyhow::Result<()> {
             eprintln!(rt; "{name}: {mistake}")?;
             Err(anyhow!("the paper has a mistake"))
         }
+        // a text of its own, since to write out the failure would take memory
         Err(Failure::NoMemory) => Err(anyhow!("memory is short")),
     }
 }
