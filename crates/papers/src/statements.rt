@@ -63,8 +63,8 @@ impl fmt::Display for Failure<'_> {
     }
 }
 
-// The next word of the line. `reader` and `expected` go together in four functions: what a step reads from and what
-// it should say. A struct of them would be made anew at each call.
+// The next word of the line. `reader` and `expected` go together in four functions: what a step reads from, and what a mistake says
+// was expected. A struct of them would be made anew at each call.
 fn next<'a>(reader: &mut Reader<'a>, expected: Expected) -> Result<Word<'a>, Mistake<'a>>
     ensures { Told result (point reader.new) (λ w q. WordNext (point reader.old) w q) }
 {
@@ -141,7 +141,7 @@ fn number_within<'a>(
 }
 
 // The map from a simple kind that begins with `word`, the last word read; it has to start at `kind`.
-// Here, in `misfit` and in `then` `part` goes with a kind, only for the mistake: a struct of both would be taken apart at each use.
+// Here, in `misfit` and in `then`, `part` goes with a kind, only for the mistake: a struct of both would be taken apart at each use.
 fn simple_map<'a>(
     reader: &mut Reader<'a>,
     word: Word<'a>,

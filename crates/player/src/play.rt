@@ -82,9 +82,10 @@ impl<'a> Player<'a> {
     ) -> Result<String, Failure<'a>> {
         let items: Vec<K> = read_items(self.heap, &self.paper.items)?;
         let c = coarsen(self.heap, map, &items)?;
-        let kind = self.paper.kind;
-        let name = self.paper.map;
-        let mut out = format!(in self.heap; "kind: {kind}\nmap: {name}\n")?;
+        let mut out = format!(in self.heap;
+            "kind: {}\nmap: {}\n",
+            self.paper.kind, self.paper.map
+        )?;
         tell(&mut out, &items, &c)?;
         Ok(out)
     }

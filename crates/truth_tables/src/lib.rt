@@ -75,7 +75,7 @@ impl TruthTable {
         }
     }
 
-    /// Whether the two stand for one function. It is equality of functions, not of bits, so it is no `==`.
+    /// Whether the two stand for one function. It is not `PartialEq`, which would be written by hand too, and promise less than this clause.
     pub fn alike(self, other: TruthTable) -> bool
         ensures { result ≡ agree 6 (function self.bits).0 (function other.bits).0 }
     {
