@@ -1,6 +1,11 @@
--- Rows place by place: one more place done, and folds over a row.
-use Rattle.std.proofs.Common.{◌≡◌, ℕ, ◌+◌, true, false, not, filter, ◌++◌, Bool, cond, List, [], ◌∷◌, map, length, sym, refl, ap, ◌∙◌, ap₂, arith}
+-- Folds over a row, and a row joined before a map and after it.
+use Rattle.std.proofs.Common.{◌≡◌, ℕ, ◌+◌, true, false, not, filter, ◌++◌, Bool, cond, List, [], ◌∷◌, Option, map, length, sym, refl, ap, ◌∙◌, ap₂, arith}
+use denote.Param.Members.{Mut}
+use Rattle.std.specs.Fn.{Called}
 use Rattle.std.proofs.lemmas.List.{map_push}
+use Rattle.std.proofs.lemmas.Fn.{fold_over}
+use Rattle.std.specs.Iterator.{Drains, AlwaysYields}
+use Rattle.std.specs.List.{FoldsTo}
 use Rattle.kinds.specs.Semiring.{Semiring}
 use Rattle.rows.specs.declared.coarsening.BothWays.{BothWays}
 use Rattle.rows.specs.Rows.{folded, nonzero}
@@ -12,8 +17,18 @@ module _ {X A : Type 0} (means : X → A) (op : A → A → A) (e : A) (assoc : 
   joined_push (b ∷ bs) a = assoc b (folded op e bs) a ∙ ap (op b) (joined_push bs a)
 
   -- with one more element joined, a join of the first elements is again the join of the first elements
-  pub fold_push : (xs : List X) (x : X) (s t : A) → s ≡ folded op e (map means xs) → t ≡ op s (means x) → t ≡ folded op e (map means (xs ++ (x ∷ [])))
+  fold_push : (xs : List X) (x : X) (s t : A) → s ≡ folded op e (map means xs) → t ≡ op s (means x) → t ≡ folded op e (map means (xs ++ (x ∷ [])))
   fold_push xs x s t h next = next ∙ ap (λ a. op a (means x)) h ∙ joined_push (map means xs) (means x) ∙ ap (folded op e) (sym (map_push means xs x))
+
+  -- so a run of a closure that joins its state and one item gives the join of all items
+  pub fold_joins : {S I F : Type 0} (steps : S → Option I → S → Type 0) (v : I → X) (g : Mut F (X × (I × Unit {0})) X) (f : F)
+      → ((s : X) (x : I) (t : X) (f' : F) → Called g f (s, (x, tt)) t f' → (means t ≡ op (means s) (means (v x))) × (f' ≡ f))
+      → (i : S) (all : List X) (a r : X) → AlwaysYields steps v i all → means a ≡ e
+      → (xs : List I) × (f' : F) × Drains steps i xs × FoldsTo {P = F × X} (λ p x q. Called g p.0 (p.1, (x, tt)) q.1 q.0) (f, a) xs (f', r)
+      → means r ≡ folded op e (map means all)
+  fold_joins steps v g f step i all a r =
+      fold_over steps v g (λ xs s. means s ≡ folded op e (map means xs)) f
+      (λ xs s x t f' joined call. let u = step s x t f' call in (fold_push xs (v x) (means s) (means t) joined u.0, u.1)) i all a r
 
 -- one element more is counted unless it is the same as zero
 counted : {X : Type 0} (same : Bool) (x : X) (xs : List X) (n : ℕ) → length xs ≡ n → length (cond (not same) (x ∷ xs) xs) ≡ cond same n (1 + n)
