@@ -6,7 +6,7 @@ ghost use Rattle.formats.specs.Refusals.{refusal_number};
 #[derive(Clone, Copy, Debug, PartialEq, Eq)]
 pub enum Refusal {
     /// 1: the tables of a store concerned have lengths out of range.
-    IllSized = 1,
+    IllSized,
     /// 2: a slot above 15.
     NoSuchSlot,
     /// 3: working memory of under 33 annotations for each tree of the receiving table.
@@ -47,7 +47,7 @@ impl Refusal {
     pub fn number(self) -> u8
         ensures { result ≡ refusal_number self }
     {
-        // an enum's number is had by `as` alone
-        self as u8
+        // an enum's number is had by `as` alone, and counts from 0
+        self as u8 + 1
     }
 }

@@ -51,8 +51,10 @@ impl Kind for Count {
 
     #[tactic(auto, using(crate::specs::NumberLaws::held_same))]
     fn times(self, other: Count) -> Count {
+        // In 64 bits, where the product does not wrap: a product that stops at the top of 32 bits takes twice the time in a row.
+        let product = u64::from(self.held()) * u64::from(other.held());
         Count {
-            times: self.held().saturating_mul(other.held()).min(MOST),
+            times: u32::try_from(product.min(u64::from(MOST))).unwrap_or(MOST),
         }
     }
 
@@ -67,9 +69,10 @@ impl Coded for Count {
     ghost one_code = { record { same_code = λ x y e. fst_path e; same_meaning = λ x y e. by_number e } };
 
     fn read(code: u64) -> Option<Count> {
-        u32::try_from(code)
-            .ok()
-            .filter(|times| *times <= MOST)
+        // The test comes first: after it the conversion costs nothing.
+        Some(code)
+            .filter(|code| *code <= u64::from(MOST))
+            .and_then(|code| u32::try_from(code).ok())
             .map(|times| Count { times })
     }
 

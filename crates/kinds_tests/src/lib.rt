@@ -15,6 +15,7 @@ mod tests {
     use rows::places::{add_row, add_scaled_row, clear_row, scale_row};
     use rows::totals::{count_nonzero, multiply_row, sum_row};
     use std::alloc::{AllocError, Global};
+    use std::fmt;
     use std::test::Fail;
 
     const NO: Flag = Flag { yes: false };
@@ -202,6 +203,28 @@ mod tests {
             condition(40).to_string(rt.alloc())?.as_str(),
             "x0 and x1 or x0 and x2"
         );
+        Ok(())
+    }
+
+    // Stands for a half that does not say what it prints.
+    #[derive(Clone, Copy)]
+    struct Silent;
+
+    impl fmt::Display for Silent {
+        fn fmt<W: fmt::Write>(&self, f: &mut fmt::Formatter<W>) -> fmt::Result {
+            write!(f, "half")
+        }
+    }
+
+    #[test]
+    fn words_of_pairs(rt: HostRuntime) -> Result<(), Fail> {
+        let p = both(YES, 3);
+        assert_eq!(rt; p.words(rt.alloc())?.as_str(), "(yes, 3)");
+        let q = Pair {
+            left: Silent,
+            right: p,
+        };
+        assert_eq!(rt; q.words(rt.alloc())?.as_str(), "(half, (yes, 3))");
         Ok(())
     }
 

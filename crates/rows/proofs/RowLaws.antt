@@ -1,9 +1,10 @@
 -- Folds over a row, and a row joined before a map and after it.
-use Rattle.std.proofs.Common.{◌≡◌, ℕ, ◌+◌, true, false, not, filter, ◌++◌, Bool, cond, List, [], ◌∷◌, Option, map, length, sym, refl, ap, ◌∙◌, ap₂, arith}
+use Rattle.std.proofs.Common.{◌≡◌, ℕ, suc, ◌+◌, ◌%◌, ◌<◌, ◌≤◌, true, false, not, filter, ◌++◌, Bool, cond, List, [], ◌∷◌, Option, map, length, sym, refl, ap, ◌∙◌, ap₂, arith, lt_of_le_of_lt, zero-add}
 use denote.Param.Members.{Mut}
 use Rattle.std.specs.Fn.{Called}
 use Rattle.std.proofs.lemmas.List.{map_push}
 use Rattle.std.proofs.lemmas.Fn.{fold_over}
+use Rattle.std.proofs.Math.Nat.{mod-add-mod, mod-eq_of_lt}
 use Rattle.std.specs.Iterator.{Drains, AlwaysYields}
 use Rattle.std.specs.List.{FoldsTo}
 use Rattle.kinds.specs.Semiring.{Semiring}
@@ -40,6 +41,45 @@ pub nonzero_counted : {X : Type 0} (R : Semiring) (means : X → R.carrier) (xs 
     → length (filter (λ x. not (R.same (means x) R.zero)) xs) ≡ nonzero R (map means xs)
 nonzero_counted R means [] = refl
 nonzero_counted R means (x ∷ xs) = counted (R.same (means x) R.zero) x _ _ (nonzero_counted R means xs)
+
+module _ {X : Type 0} (R : Semiring) (means : X → R.carrier) where
+  -- one more element counts one unless it is the same as zero
+  abbrev one_more : X → ℕ
+  one_more x = cond (R.same (means x) R.zero) 0 1
+
+  -- how many are not zero, by the elements
+  abbrev tally : List X → ℕ
+  tally xs = nonzero R (map means xs)
+
+  further : (b : Bool) (m n d : ℕ) → m ≡ n + d → cond b m (1 + m) ≡ cond b n (1 + n) + d
+  further true m n d e = e
+  further false m n d e = omega (arith, e)
+
+  tally_push : (xs : List X) (x : X) → tally (xs ++ (x ∷ [])) ≡ tally xs + one_more x
+  tally_push [] x = sym (zero-add _)
+  tally_push (y ∷ ys) x = further (R.same (means y) R.zero) _ _ _ (tally_push ys x)
+
+  tally_le : (xs : List X) → tally xs ≤ length xs
+  tally_le [] = omega arith
+  tally_le (x ∷ xs) = below (R.same (means x) R.zero) (tally_le xs)
+    where
+      below : {m n : ℕ} (b : Bool) → m ≤ n → cond b m (1 + m) ≤ suc n
+      below true h = omega (arith, h)
+      below false h = omega (arith, h)
+
+  -- a run of a closure that adds one, modulo M, for each element that is not zero counts those of all items, where M is more than these
+  pub fold_counts : {S I F : Type 0} (M : ℕ) (steps : S → Option I → S → Type 0) (v : I → X) (g : Mut F (ℕ × (I × Unit {0})) ℕ) (f : F)
+      → ((s : ℕ) (x : I) (t : ℕ) (f' : F) → Called g f (s, (x, tt)) t f' → (t ≡ (s + one_more (v x)) % M) × (f' ≡ f))
+      → (i : S) (all : List X) (r : ℕ) → length all < M → AlwaysYields steps v i all
+      → (xs : List I) × (f' : F) × Drains steps i xs × FoldsTo {P = F × ℕ} (λ p x q. Called g p.0 (p.1, (x, tt)) q.1 q.0) (f, 0) xs (f', r)
+      → r ≡ tally all
+  fold_counts M steps v g f step i all r few yields ran =
+      fold_over steps v g (λ xs s. s ≡ tally xs % M) f
+      (λ xs s x t f' sofar call.
+      let u = step s x t f' call in
+      (u.0 ∙ ap (λ n. (n + one_more (v x)) % M) sofar ∙ mod-add-mod (tally xs) M (one_more (v x)) ∙ ap (λ n. n % M) (sym (tally_push xs (v x))), u.1))
+      i all 0 r yields (sym (mod-eq_of_lt (omega (arith, few)))) ran
+      ∙ mod-eq_of_lt (lt_of_le_of_lt (tally_le all) few)
 
 -- What keeps an operation and its unit keeps every fold of a row: f joins and then maps, image maps and then joins.
 pub keeps_fold : {K L A B : Type 0} (from : K → A) (to : L → B) (image : K → L) (f : A → B) (op : A → A → A) (unit : A) (op' : B → B → B) (unit' : B)

@@ -13,9 +13,10 @@ pub fn add_row<K: Kind>(target: &mut [K], source: &[K])
     ensures source { source.exit.now ≡ source.entry.now }
 {
     for (i, x) in target.iter_mut().enumerate() {
-        if let Some(y) = source.get(i) {
-            *x = x.plus(*y);
-        }
+        let Some(y) = source.get(i) else {
+            break;
+        };
+        *x = x.plus(*y);
     }
 }
 
@@ -25,9 +26,10 @@ pub fn add_scaled_row<K: Kind>(target: &mut [K], source: &[K], by: K)
     ensures source { source.exit.now ≡ source.entry.now }
 {
     for (i, x) in target.iter_mut().enumerate() {
-        if let Some(y) = source.get(i) {
-            *x = x.plus(by.times(*y));
-        }
+        let Some(y) = source.get(i) else {
+            break;
+        };
+        *x = x.plus(by.times(*y));
     }
 }
 

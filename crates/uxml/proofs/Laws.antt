@@ -1,23 +1,33 @@
 -- The laws of the definitions, each in the form in which it is stated.
-use Rattle.std.proofs.Common.{◌≡◌, ℕ, Decides, sym, refl, ap, ◌∙◌}
+use Rattle.std.proofs.Common.{◌≡◌, ℕ, Bool, true, false, cond, get_or, Decides, sym, refl, ap, ◌∙◌}
 use Rattle.kinds.specs.Semiring.{Semiring, Lawful}
-use Rattle.formats.specs.Trees.{Forest, tree, children, In}
+use Rattle.formats.specs.Trees.{Forest, tree, empty, children, In}
 use Rattle.formats.specs.Queries.{Query, both, scaled, child, below, only_of, for_each}
 use Rattle.uxml.specs.Forests.{TreeOf as T, ForestOf as F, total, same_tree, at, Equal, sum_over, single, below_tree, below_each}
 use Rattle.uxml.specs.Normal.{Normal, NormalTree, node, nil}
 use Rattle.uxml.specs.Images.{image}
-use Rattle.uxml.specs.Evaluation.{Bound, a_tree, Scope, binding, the_item}
-use Rattle.uxml.specs.Equality.{no_more, and_each, Same, NormalBound, of_tree, NormalScope}
+use Rattle.uxml.specs.Evaluation.{Bound, a_tree, a_forest, bound_tree, Scope, Answer, after, binding, the_tree, the_item}
+use Rattle.uxml.specs.Equality.{no_more, and_each, Same, NormalBound, of_tree, of_forest, NormalScope}
 use Rattle.uxml.specs.Laws.{Equivalence, ListsItsTrees, MakesNormal, gives, one_at, sum_at, GivesTheSum, GivesTheMultiple, GivesTheChildren, GivesAllBelow, GivesThoseLabelled, GivesForEach, IsAllBelow, AddsImages}
 use Rattle.uxml.proofs.Same.{tree_ind, same_refl, same_sym, same_trans, same_parts}
 use Rattle.uxml.proofs.Total.{at_in, nonzero_in, in_node, normal_in, total_ext, total_add, total_union, total_scale, total_sum, at_linear, at_steady, at_only, keep_add, keep_sum, below_sum}
 use Rattle.uxml.proofs.Order.{find_in, same_from_equal, equal_from_same}
 use Rattle.uxml.proofs.Image.{keep_image, at_image}
-use Rattle.uxml.proofs.Known.{each_append}
+use Rattle.uxml.proofs.Known.{each_at, each_append}
 use Rattle.uxml.proofs.Identity.{answers_normal}
+
+pub bound_tree_normal : {K : Semiring} {b : Bound K.carrier} → NormalBound K b → NormalTree K (bound_tree b)
+bound_tree_normal (of_tree m) = m
+bound_tree_normal (of_forest m) = node nil
 
 children_normal : {K : Semiring} {t : T K} → NormalTree K t → Normal K (children t)
 children_normal (node n) = n
+
+-- what the chosen of two answers gives
+pub chosen : (K : Semiring) (b : Bool) (x y : Answer K.carrier) (v : T K)
+    → at K (after (λ f. f) (elim b [ true ↦ x | false ↦ y ])).forest v ≡ cond b (at K x.forest v) (at K y.forest v)
+chosen K true x y v = refl
+chosen K false x y v = refl
 
 module _ {K : Semiring} (K✓ : Lawful K) where
   pub equivalence : Equivalence (Same K)
@@ -48,6 +58,9 @@ module _ {K : Semiring} (K✓ : Lawful K) where
         → at K (sum_over K g f) v ≡ sum_at K f (λ t. at K (g t) v)
     at_sum_over g k v = total_sum K✓ K✓ (at_linear K✓ v) (λ t j. at_steady K✓ v t) g f k ∙ sum_is (λ t. at K (g t) v)
 
+  pub at_single : (t v : T K) → at K (single K t) v ≡ one_at K t v
+  at_single t v = total_add K✓ K✓ (at_linear K✓ v) t K.one (at_steady K✓ v t) nil ∙ K✓.plus_zero _
+
   pub all_below : IsAllBelow K (below_tree K)
   all_below (tree l f) n v =
       let m = in_node n in
@@ -55,8 +68,17 @@ module _ {K : Semiring} (K✓ : Lawful K) where
       total_add K✓ K✓ (at_linear K✓ v) (tree l f) K.one {f = below_each K f} (at_steady K✓ v (tree l f)) (rw (below_sum K f) (keep_sum K✓ (below_tree K) f k))
       ∙ ap (K.plus (one_at K (tree l f) v)) (ap (λ g. at K g v) (below_sum K f) ∙ at_sum_over m (below_tree K) k v)
 
-  -- what queries give in a normal scope is normal
+  -- the variables and slots of a normal scope are normal, and so is what queries give in it
   module _ {s : Scope K.carrier} (n : NormalScope K s) where
+    pub slot_normal : (i : ℕ) → Normal K (get_or s.slots i empty)
+    slot_normal = each_at (Normal K) nil n.slots
+
+    pub bound_normal : (x : ℕ) → NormalBound K (get_or s.bound x (a_forest empty))
+    bound_normal = each_at (NormalBound K) (of_forest nil) n.bound
+
+    pub the_tree_normal : (x : ℕ) → NormalTree K (the_tree K s x)
+    the_tree_normal x = bound_tree_normal (bound_normal x)
+
     binding_normal : {b : Bound K.carrier} → NormalBound K b → NormalScope K (binding s b)
     binding_normal m = record { slots = n.slots; bound = each_append n.bound (and_each m no_more) }
 

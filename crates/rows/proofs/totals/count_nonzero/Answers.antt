@@ -1,10 +1,11 @@
-use Rattle.std.proofs.Common.{rules, ◌≡◌, not, count_by, sym, ◌∙◌}
-use Rattle.std.proofs.lemmas.List.Sums.{length-filter}
-use Rattle.rows.proofs.RowLaws.{nonzero_counted}
+use Rattle.std.proofs.Common.{rules, ◌≡◌, ◌^◌, map, subst}
+use Rattle.std.proofs.lemmas.Fn.{slice_gives, fronts}
+use Rattle.rows.specs.Rows.{nonzero}
+use Rattle.rows.proofs.RowLaws.{fold_counts}
 use Rattle.rows.proofs.totals.count_nonzero.Goals as goal
 
 pub returns : goal.returns
 returns g c =
     let k = g.K.Kind in
-    let counted : c.count.result ≡ count_by (λ x. not (k.ring.same (k.means x) k.ring.zero)) c.args.row.now = search rules in
-    counted ∙ sym (length-filter _ c.args.row.now) ∙ nonzero_counted k.ring k.means c.args.row.now
+    subst (λ xs. c.fold.result ≡ nonzero k.ring (map k.means xs)) c.iter.ensures.rest
+    (fold_counts k.ring k.means (2 ^ 64) fronts (λ x. x.now) _ _ (λ s x t f call. search rules) _ _ _ (search rules) (slice_gives c.iter.result) c.fold.ensures.ran)
