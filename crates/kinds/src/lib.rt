@@ -8,3 +8,4 @@ pub mod counts;
 pub mod flags;
 pub mod pairs;
 pub mod semiring;
+pub mod words;

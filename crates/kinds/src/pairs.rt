@@ -1,11 +1,9 @@
 // Two kinds side by side, half by half. The halves may be pairs themselves.
-ghost use Rattle.std.specs.Prelude.{◌≡◌, ℕ, List, IfOk, IfSome, string_bytes};
 ghost use Rattle.kinds.specs.Pairs.{pairs};
 ghost use Rattle.kinds.specs.PairLaws.{pairs_lawful};
-ghost use Rattle.kinds.specs.Wording.{pair_output, pair_words};
+ghost use Rattle.kinds.specs.Wording.{pair_output};
 
 use crate::semiring::Kind;
-use std::alloc::{AllocError, Global};
 use std::fmt;
 
 #[derive(Clone, Copy, Debug)]
@@ -60,16 +58,5 @@ impl<L: fmt::Display, R: fmt::Display> fmt::Display for Pair<L, R> {
 
     fn fmt<W: fmt::Write>(&self, f: &mut fmt::Formatter<W>) -> fmt::Result {
         write!(f, "({}, {})", self.left, self.right)
-    }
-}
-
-impl<L: fmt::Display, R: fmt::Display> Pair<L, R> {
-    /// Its words, on the heap: those of its halves in brackets, also where a half does not say what its own are, so that `Display` says nothing.
-    pub fn words(&self, heap: Global) -> Result<String, AllocError>
-        ensures { IfOk result (λ s. (l : List ℕ) × (r : List ℕ) × IfSome (L.output self.now.left) (λ w. l ≡ w) × IfSome (R.output self.now.right) (λ w. r ≡ w) × (string_bytes s ≡ pair_words l r)) }
-    {
-        let left = format!(in heap; "{}", self.left)?;
-        let right = format!(in heap; "{}", self.right)?;
-        format!(in heap; "({left}, {right})")
     }
 }

@@ -10,12 +10,12 @@ mod tests {
     use kinds::flags::Flag;
     use kinds::pairs::Pair;
     use kinds::semiring::Kind;
+    use kinds::words::Worded;
     use maps::{Chain, Cleared, Left, Map, Present, Right, Under};
     use rows::coarsening::coarsen;
     use rows::places::{add_row, add_scaled_row, clear_row, scale_row};
     use rows::totals::{count_nonzero, multiply_row, sum_row};
     use std::alloc::{AllocError, Global};
-    use std::fmt;
     use std::test::Fail;
 
     const NO: Flag = Flag { yes: false };
@@ -206,25 +206,29 @@ mod tests {
         Ok(())
     }
 
-    // Stands for a half that does not say what it prints.
+    // A half of which nothing is known but that it has words.
     #[derive(Clone, Copy)]
     struct Silent;
 
-    impl fmt::Display for Silent {
-        fn fmt<W: fmt::Write>(&self, f: &mut fmt::Formatter<W>) -> fmt::Result {
-            write!(f, "half")
+    impl Worded for Silent {
+        ghost told = { λ _ _. Unit {0} };
+
+        fn words(self, heap: Global) -> Result<String, AllocError> {
+            String::from_str(heap, "half")
         }
     }
 
     #[test]
-    fn words_of_pairs(rt: HostRuntime) -> Result<(), Fail> {
-        let p = both(YES, 3);
-        assert_eq!(rt; p.words(rt.alloc())?.as_str(), "(yes, 3)");
-        let q = Pair {
+    fn words_on_the_heap(rt: HostRuntime) -> Result<(), Fail> {
+        let heap = rt.alloc();
+        let p = Pair {
             left: Silent,
-            right: p,
+            right: both(YES, 3),
         };
-        assert_eq!(rt; q.words(rt.alloc())?.as_str(), "(half, (yes, 3))");
+        assert_eq!(rt; p.words(heap)?.as_str(), "(half, (yes, 3))");
+        assert_eq!(rt; NO.words(heap)?.as_str(), "no");
+        assert_eq!(rt; Clearance::Secret.words(heap)?.as_str(), "secret");
+        assert_eq!(rt; condition(6).words(heap)?.as_str(), "x0 or x1");
         Ok(())
     }
 

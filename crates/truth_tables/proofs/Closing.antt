@@ -83,11 +83,13 @@ mask_parts j h = and_parts (above (get_or masks j 0) (2 ^ j)) (ltb (2 ^ j) 64 &&
 pub shift_is : (j : ℕ) → j < 6 → 1 * 2 ^ j % 2 ^ 64 ≡ 2 ^ j
 shift_is j h = (Decides-eqb (1 * 2 ^ j % 2 ^ 64) (2 ^ j)).0 (and_parts (ltb (2 ^ j) 64) (eqb (1 * 2 ^ j % 2 ^ 64) (2 ^ j)) (mask_parts j h).1).1
 
-pub shift_lt : (j : ℕ) → j < 6 → 1 * 2 ^ j % 2 ^ 64 < 64
-shift_lt j h = rw (shift_is j h) (ltb-true (2 ^ j) 64 (and_parts (ltb (2 ^ j) 64) (eqb (1 * 2 ^ j % 2 ^ 64) (2 ^ j)) (mask_parts j h).1).0)
+-- a shift by what variable j weighs is below 64
+pub shift_lt : (j s : ℕ) → j < 6 → s ≡ 2 ^ j → s < 64
+shift_lt j s h e = rw e (ltb-true (2 ^ j) 64 (and_parts (ltb (2 ^ j) 64) (eqb (1 * 2 ^ j % 2 ^ 64) (2 ^ j)) (mask_parts j h).1).0)
 
-pub one_more : (j x : ℕ) (f : ℕ → Bool) → j < 6 → Has x (steps j f) → Has (bit_or x (bit_and ((x * 2 ^ (1 * 2 ^ j % 2 ^ 64)) % 2 ^ 64) (get_or masks j 0))) (steps (j + 1) f)
-one_more j x f h k = rw (add-one j, shift_is j h) (has_step (get_or masks j 0) (2 ^ j) x (steps j f) (mask_parts j h).0 k)
+-- and makes one more step
+pub one_more : (j s x : ℕ) (f : ℕ → Bool) → j < 6 → s ≡ 2 ^ j → Has x (steps j f) → Has (bit_or x (bit_and ((x * 2 ^ s) % 2 ^ 64) (get_or masks j 0))) (steps (j + 1) f)
+one_more j s x f h e k = rw (add-one j, e) (has_step (get_or masks j 0) (2 ^ j) x (steps j f) (mask_parts j h).0 k)
 
 pub function_or : (x y : ℕ) → function (bit_or x y) ≡ or_of 6 (function x) (function y)
 unfolding function

@@ -33,7 +33,8 @@ impl TruthTable {
     {
         let mut x = self.bits;
         for (j, variable) in VARIABLES.iter().enumerate() {
-            x |= (x << (1usize << j)) & *variable;
+            let shift = 1usize << j;
+            x |= (x << shift) & *variable;
         }
         TruthTable { bits: x }
     }

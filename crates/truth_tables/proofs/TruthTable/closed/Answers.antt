@@ -1,14 +1,18 @@
-use Rattle.std.proofs.Common.{rules, ◌≡◌, ◌∙◌, subst}
+use Rattle.std.proofs.Common.{rules, ◌≡◌, ◌<◌, ◌∙◌, subst}
 use Rattle.truth_tables.specs.Tables.{bit, index, function}
 use Rattle.truth_tables.proofs.Bitwise.{index_lt}
-use Rattle.truth_tables.proofs.Closing.{BitsOf, Has, steps, steps_raise, shift_lt, one_more, bits_code, bits_close}
+use Rattle.truth_tables.proofs.Closing.{BitsOf, Has, steps, steps_raise, shift_is, shift_lt, one_more, bits_code, bits_close}
 use Rattle.truth_tables.proofs.TruthTable.closed.Goals as goal
 
-pub overflow_shl-x-in-loop-j : goal.overflow_shl-x-in-loop-j
-overflow_shl-x-in-loop-j c = shift_lt c.loop-j.j (search rules)
+pub overflow_shl-x : goal.overflow_shl-x
+overflow_shl-x c =
+    let low : c.loop-j.j < 6 = search rules in
+    shift_lt c.loop-j.j _ low (search (rules, shift_is c.loop-j.j low))
 
 pub loop-j-preserved : goal.loop-j-preserved
-loop-j-preserved c = one_more c.loop-j.j c.loop-j.x (bit c.args.self.bits) (search rules) c.loop-j.invariant
+loop-j-preserved c =
+    let low : c.loop-j.j < 6 = search rules in
+    one_more c.loop-j.j _ c.loop-j.x (bit c.args.self.bits) low (search (rules, shift_is c.loop-j.j low)) c.loop-j.invariant
 
 pub returns : goal.returns
 unfolding function
